@@ -1,3 +1,4 @@
+pub mod Clash
 pub mod LooseEquality
 pub mod Order
 pub mod Remainder

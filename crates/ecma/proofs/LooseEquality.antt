@@ -3,11 +3,11 @@ use lib.Ieee.{Float, eq}
 use mathlib.Core.Bool.{Bool, true, false}
 use mathlib.Core.List.{List}
 use mathlib.Core.Path.{_≡_, refl, ap, sym, _∙_}
-use native.Mathlib.Omega.{arith}
 use Prim.Native.Nat.{ℕ}
 use Rattle.std.specs.declared.option.Option.{Option}
 use Rattle.std.specs.declared.option.Option.the-variants.{Some, None}
 use Rattle.std.specs.Options.{mapped}
+use Rattle.ecma.proofs.Clash.{clash}
 use Rattle.ecma.proofs.Order.{eq-sym}
 use Rattle.ecma.specs.Comparison.{IsLooselyEqual, ToNumber, numberEquals, numericOf}
 use Rattle.ecma.specs.Value.{Primitive, null, undefined, boolean, number, string}
@@ -23,8 +23,8 @@ module _ (h : List ℕ → Option Float) where
   -- with the Number, or a Boolean's Number, on the left
   pub from-left : (x y : Primitive) (n : Float) → numericOf x ≡ Some n → numberEquals h n y ≡ IsLooselyEqual h x y
   unfolding eq
-  from-left null y n e = let z : _≡_ {A = ℕ} 0 1 = cc in absurd (omega arith)
-  from-left undefined y n e = let z : _≡_ {A = ℕ} 0 1 = cc in absurd (omega arith)
+  from-left null y n e = clash (cc)
+  from-left undefined y n e = clash (cc)
   from-left (boolean a) y n e = ap (λ (m : Float). numberEquals h m y) (sym (taken (ToNumber a) n e)) ∙ go a y
     where
       go : (a : Bool) (y : Primitive) → numberEquals h (ToNumber a) y ≡ IsLooselyEqual h (boolean a) y
@@ -37,7 +37,7 @@ module _ (h : List ℕ → Option Float) where
       go a (number y) = refl
       go a (string t) = refl
   from-left (number x) y n e = ap (λ (m : Float). numberEquals h m y) (sym (taken x n e))
-  from-left (string t) y n e = let z : _≡_ {A = ℕ} 0 1 = cc in absurd (omega arith)
+  from-left (string t) y n e = clash (cc)
 
   -- and on the right
   number-right : (y : Float) (x : Primitive) → numberEquals h y x ≡ IsLooselyEqual h x (number y)
@@ -59,8 +59,8 @@ module _ (h : List ℕ → Option Float) where
   boolean-right b (string t) = swapped (ToNumber b) (h t)
 
   pub from-right : (x y : Primitive) (n : Float) → numericOf y ≡ Some n → numberEquals h n x ≡ IsLooselyEqual h x y
-  from-right x null n e = let z : _≡_ {A = ℕ} 0 1 = cc in absurd (omega arith)
-  from-right x undefined n e = let z : _≡_ {A = ℕ} 0 1 = cc in absurd (omega arith)
+  from-right x null n e = clash (cc)
+  from-right x undefined n e = clash (cc)
   from-right x (boolean b) n e = ap (λ (m : Float). numberEquals h m x) (sym (taken (ToNumber b) n e)) ∙ boolean-right b x
   from-right x (number y) n e = ap (λ (m : Float). numberEquals h m x) (sym (taken y n e)) ∙ number-right y x
-  from-right x (string t) n e = let z : _≡_ {A = ℕ} 0 1 = cc in absurd (omega arith)
+  from-right x (string t) n e = clash (cc)

@@ -1,13 +1,13 @@
 -- Order and equality of Numbers: `<=` is the opposite of `>` but at NaN, equality goes both ways, only a zero equals +0.
-use lib.Dec.{eqb, ltb, lit<}
+use lib.Dec.{eqb, lit<}
 use lib.Ieee.{Float, nan, inf, fin, up, down, below, level, lt, le, eq, isNan, binary64, ofBits}
 use lib.Ieee.Fits.{up-pos}
-use lib.IntN.{ℤ, pos, negsuc}
+use lib.IntN.{ℤ}
 use mathlib.Core.Bool.{Bool, true, false, not, _&&_, _||_, Bool·beq}
 use mathlib.Core.Path.{_≡_, refl, sym, ap, _∙_}
 use native.Mathlib.Nat.{mul-pos, zero-lt-suc, zero-mul}
 use native.Mathlib.Omega.{arith}
-use Prim.Native.Nat.{ℕ, zero, suc, _+_, _*_, _<_}
+use Prim.Native.Nat.{ℕ, zero, suc, _*_, _<_}
 use Rattle.std.proofs.shelf.Ways.{tells}
 use Rattle.ecma.specs.Number.{isZero, Number·lessThan}
 use Rattle.ecma.specs.Operators.{isFalse}

@@ -3,9 +3,9 @@ use lib.Dec.{T, eqb, eqb→eq, eqb·suc-zero}
 use lib.Ieee.{Float, nan, inf, fin, up, down, unlike, binary64, round, rem, fits}
 use lib.Ieee.Fits.{down-pos, up-pos}
 use lib.Ieee.Scale.{round-same}
-use lib.IntN.{ℤ, pos, negsuc, negℤ, natAbs, _-ℤ_, _*ℤ_, zero-*ℤ}
-use lib.Signed.{nonNeg, quotZ}
-use mathlib.Core.Bool.{Bool, true, false, not, cond}
+use lib.IntN.{ℤ, pos, negsuc, negℤ, _-ℤ_, _*ℤ_, zero-*ℤ}
+use lib.Signed.{quotZ}
+use mathlib.Core.Bool.{Bool, true, false, cond}
 use mathlib.Core.Path.{_≡_, refl, sym, ap, _∙_}
 use native.Mathlib.Nat.{mod-def, mul-div-le, mul-one, mul-pos, mul-zero, one-mul, zero-div, zero-lt-suc, zero-mod, zero-mul, lt-irrefl}
 use native.Mathlib.Omega.{arith}

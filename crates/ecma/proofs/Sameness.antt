@@ -6,7 +6,6 @@ use mathlib.Core.Path.{_≡_, refl, ap}
 use Prim.Native.Nat.{ℕ}
 use Rattle.std.proofs.shelf.Equals.{sameBytes-decides}
 use Rattle.std.specs.Orderings.{Decides}
-use Rattle.std.specs.shelf.Text.{sameBytes}
 use Rattle.ecma.specs.Comparison.{IsStrictlyEqual, SameValue}
 use Rattle.ecma.specs.declared.primitive_value.PrimitiveValue.{PrimitiveValue}
 use Rattle.ecma.specs.declared.primitive_value.PrimitiveValue.the-variants.{Null, Undefined, Boolean, Number, String}

@@ -1,6 +1,6 @@
 -- a * 2 ^ k / 2 ^ l as one shift, or as nothing; and the low digits of a number that was shifted past them.
 use lib.Pow.{pow-add, pow-mono, pow-pos, shl-lt, shl-shr}
-use mathlib.Core.Path.{_≡_, refl, sym, ap, _∙_}
+use mathlib.Core.Path.{_≡_, sym, ap, _∙_}
 use native.Mathlib.Nat.{div-eq-of-lt, lt-of-lt-of-le, mul-assoc, mul-div-mul-right, mul-mod-left}
 use native.Mathlib.Omega.{arith}
 use Prim.Native.Nat.{ℕ, _+_, _-_, _*_, _/_, _%_, _^_, _≤_, _<_}

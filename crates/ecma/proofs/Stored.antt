@@ -9,9 +9,9 @@ use lib.IntN.{ℤ}
 use mathlib.Core.Bool.{Bool, true, false, cond}
 use mathlib.Core.Path.{_≡_, refl, sym, ap, subst, _∙_}
 use native.Mathlib.Nat.{mul-right-comm}
-use native.Mathlib.Omega.{arith}
 use Prim.Native.Nat.{ℕ, _+_, _-_, _*_, _/_, _^_}
 use Rattle.std.specs.Orderings.{Decides}
+use Rattle.ecma.proofs.Clash.{clash}
 use Rattle.ecma.specs.Number.{Number·sameValue}
 
 pub read-back : (x : Float) (b : ℕ) → T (fits binary64 x) → b ≡ toBits binary64 x → ofBits binary64 b ≡ x
@@ -21,8 +21,8 @@ read-back x b f e = ap (ofBits binary64) e ∙ ofBits-toBits binary64 x f
 nan-only : (x : Float) → isNan x ≡ true → toBits binary64 x ≡ 0x7ff8_0000_0000_0000
 unfolding toBits isNan
 nan-only nan h = refl
-nan-only (inf s) h = let z : _≡_ {A = ℕ} 0 1 = cc in absurd (omega arith)
-nan-only (fin s m e) h = let z : _≡_ {A = ℕ} 0 1 = cc in absurd (omega arith)
+nan-only (inf s) h = clash (cc)
+nan-only (fin s m e) h = clash (cc)
 
 pub one-nan : (x : Float) (b : ℕ) → T (fits binary64 x) → b ≡ toBits binary64 x → isNan (ofBits binary64 b) ≡ true → b ≡ 0x7ff8_0000_0000_0000
 one-nan x b f e h = e ∙ nan-only x (sym (ap isNan (read-back x b f e)) ∙ h)
@@ -49,19 +49,19 @@ same-magnitude s m n e d h =
 same-bits : (x y : Float) → Number·sameValue x y ≡ true → toBits binary64 x ≡ toBits binary64 y
 unfolding Number·sameValue isNan
 same-bits nan nan h = refl
-same-bits nan (inf t) h = let z : _≡_ {A = ℕ} 0 1 = cc in absurd (omega arith)
-same-bits nan (fin t n d) h = let z : _≡_ {A = ℕ} 0 1 = cc in absurd (omega arith)
-same-bits (inf s) nan h = let z : _≡_ {A = ℕ} 0 1 = cc in absurd (omega arith)
+same-bits nan (inf t) h = clash (cc)
+same-bits nan (fin t n d) h = clash (cc)
+same-bits (inf s) nan h = clash (cc)
 same-bits (inf true) (inf true) h = refl
-same-bits (inf true) (inf false) h = let z : _≡_ {A = ℕ} 0 1 = cc in absurd (omega arith)
-same-bits (inf false) (inf true) h = let z : _≡_ {A = ℕ} 0 1 = cc in absurd (omega arith)
+same-bits (inf true) (inf false) h = clash (cc)
+same-bits (inf false) (inf true) h = clash (cc)
 same-bits (inf false) (inf false) h = refl
-same-bits (inf s) (fin t n d) h = let z : _≡_ {A = ℕ} 0 1 = cc in absurd (omega arith)
-same-bits (fin s m e) nan h = let z : _≡_ {A = ℕ} 0 1 = cc in absurd (omega arith)
-same-bits (fin s m e) (inf t) h = let z : _≡_ {A = ℕ} 0 1 = cc in absurd (omega arith)
+same-bits (inf s) (fin t n d) h = clash (cc)
+same-bits (fin s m e) nan h = clash (cc)
+same-bits (fin s m e) (inf t) h = clash (cc)
 same-bits (fin true m e) (fin true n d) h = same-magnitude true m n e d (eqb→eq (m * up e * down d) (n * up d * down e) (subst T (sym h) tt))
-same-bits (fin true m e) (fin false n d) h = let z : _≡_ {A = ℕ} 0 1 = cc in absurd (omega arith)
-same-bits (fin false m e) (fin true n d) h = let z : _≡_ {A = ℕ} 0 1 = cc in absurd (omega arith)
+same-bits (fin true m e) (fin false n d) h = clash (cc)
+same-bits (fin false m e) (fin true n d) h = clash (cc)
 same-bits (fin false m e) (fin false n d) h = same-magnitude false m n e d (eqb→eq (m * up e * down d) (n * up d * down e) (subst T (sym h) tt))
 
 module _ (x y : Float) (fx : T (fits binary64 x)) (fy : T (fits binary64 y)) where

@@ -1,18 +1,16 @@
 -- The 32-bit bit string of an integer is what the machine's i32 holds, and the integer of a bit string is what it reads.
 use lib.Bits.{and-mask, bitAnd}
-use lib.Dec.{leb, ltb}
 use lib.Ieee.{binary64, ofInt}
-use lib.IntN.{ℤ, pos, negsuc, subℕ}
+use lib.IntN.{ℤ, pos, negsuc}
 use lib.Signed.{mag, mag-shr, shrZ}
-use mathlib.Core.Bool.{Bool, true, false, cond}
-use mathlib.Core.Path.{_≡_, refl, sym, ap, _∙_}
+use mathlib.Core.Path.{_≡_, sym, ap, _∙_}
 use mir.Syntax.{w32}
-use mir.Val.{SFits, ofZ, sel, toZ}
+use mir.Val.{SFits, ofZ, toZ}
 use native.Mathlib.Nat.{lt-of-le-of-lt, mod-eq-of-lt}
 use native.Mathlib.Omega.{arith}
-use Prim.Native.Nat.{ℕ, suc, _-_, _*_, _/_, _%_, _^_, _≤_, _<_}
+use Prim.Native.Nat.{ℕ, suc, _-_, _*_, _/_, _%_, _^_, _<_}
 use Rattle.std.proofs.shelf.Signed.{ints, toZ-ofZ}
-use Rattle.std.proofs.shelf.Ways.{leb-tells, tells}
+use Rattle.std.proofs.shelf.Ways.{tells}
 use Rattle.ecma.specs.Integer.{bitString, integerOf, modulo}
 
 pub bits-of : (z : ℤ) → SFits w32 z → bitString z ≡ ofZ w32 z

@@ -6,7 +6,7 @@ use lib.Ieee.Digits.{Equals, odd-val}
 use lib.Ieee.Exact.{HasValue, odd-sign}
 use lib.Ieee.Fits.{down-pos}
 use lib.Ieee.Nearest.{div-same}
-use lib.IntN.{ℤ, pos, negsuc, negℤ, natAbs}
+use lib.IntN.{ℤ, pos, negℤ, natAbs}
 use lib.Pow.{mod-mod-pow, pow-pos}
 use mathlib.Core.Bool.{Bool, true, false, cond, _||_}
 use mathlib.Core.Logic.{_⊎_, inl, inr}
@@ -16,6 +16,7 @@ use native.Mathlib.Omega.{arith}
 use Prim.Native.Nat.{ℕ, zero, suc, _+_, _-_, _*_, _/_, _%_, _^_, _≤_, _<_}
 use Rattle.std.proofs.shelf.Bits.{field-of}
 use Rattle.std.proofs.shelf.Ways.{eqb-tells, leb-tells, tells}
+use Rattle.ecma.proofs.Clash.{clash}
 use Rattle.ecma.proofs.Shifted.{down-shift, up-shift, shifted-out, no-low-digits}
 use Rattle.ecma.specs.Integer.{ToUint32, modulo, truncate}
 
@@ -70,7 +71,7 @@ normal s x t h = go (eqb (suc x) 2047) (eqb-tells (suc x) 2047)
     go : (b : Bool) → ((b ≡ true) × (suc x ≡ 2047)) ⊎ ((b ≡ false) × (suc x ≡ 2047 → ⊥))
         → wholePart (cond b (cond (eqb t 0) (inf s) nan) (odd 53 s (2 ^ 52 + t) x 1074)) ≡ (2 ^ 52 + t) * 2 ^ x / 2 ^ 1074
     go b (inl k) = absurd (h (k .1))
-    go true (inr k) = let z : _≡_ {A = ℕ} 0 1 = cc in absurd (omega arith)
+    go true (inr k) = clash (cc)
     go false (inr k) = of-fraction (odd 53 s (2 ^ 52 + t) x 1074) ((2 ^ 52 + t) * 2 ^ x) 1074 (odd-val 53 s (2 ^ 52 + t) x 1074)
 
 digits-below : (t : ℕ) → t < 2 ^ 52 → 2 ^ 52 + t < 2 ^ 53
@@ -141,7 +142,7 @@ vanishing b x e h =
         → wholePart (ofFields binary64 (leb (2 ^ 63) b) x (b % 2 ^ 52)) % 2 ^ 32 ≡ 0
     go (inl p) q = ap (λ (n : ℕ). n % 2 ^ 32) (below-one (leb (2 ^ 63) b) x (b % 2 ^ 52) (p .1) (digits-lt b))
     go (inr p) (inl q) = from-2^84 (leb (2 ^ 63) b) x (b % 2 ^ 52) (q .1) (omega (arith, e, field-below b))
-    go (inr p) (inr q) = let z : _≡_ {A = Bool} true false = sym h ∙ cc in let y : _≡_ {A = ℕ} 0 1 = cc in absurd (omega arith)
+    go (inr p) (inr q) = let z : _≡_ {A = Bool} true false = sym h ∙ cc in clash (cc)
 
 pub shifted : (b x d w : ℕ) → x ≡ field b → d ≡ 2 ^ 52 + b % 2 ^ 52 → outside x ≡ false
     → w ≡ cond (leb x 1075) (d / 2 ^ (1075 - x)) (d * 2 ^ (x - 1075) % 2 ^ 64) → w % 2 ^ 32 ≡ wholePart (ofBits binary64 b) % 2 ^ 32
@@ -165,8 +166,8 @@ shifted b x d w e g h k = ap (λ (n : ℕ). n % 2 ^ 32) k ∙ go (leb x 1075) (l
     go : (c : Bool) → ((c ≡ true) × (x ≤ 1075)) ⊎ ((c ≡ false) × (1075 < x))
         → cond c (d / 2 ^ (1075 - x)) (d * 2 ^ (x - 1075) % 2 ^ 64) % 2 ^ 32 ≡ wholePart (ofFields binary64 s x t) % 2 ^ 32
     go true (inl p) = ap (λ (n : ℕ). n / 2 ^ (1075 - x) % 2 ^ 32) g ∙ ap (λ (n : ℕ). n % 2 ^ 32) (sym (from-one s x t from (p .1)))
-    go true (inr p) = let y : _≡_ {A = ℕ} 0 1 = cc in absurd (omega arith)
-    go false (inl p) = let y : _≡_ {A = ℕ} 0 1 = cc in absurd (omega arith)
+    go true (inr p) = clash (cc)
+    go false (inl p) = clash (cc)
     go false (inr p) =
         mod-mod-pow (d * 2 ^ (x - 1075)) 32 32 ∙ ap (λ (n : ℕ). n * 2 ^ (x - 1075) % 2 ^ 32) g
         ∙ ap (λ (n : ℕ). n % 2 ^ 32) (sym (from-2^53 s x t (le-of-lt (p .1)) (lt-of-le-of-lt to (lit< tt))))

@@ -1,10 +1,9 @@
 -- Worked examples: what the definitions give at edges that the standard's text names, or that tell two readings apart.
-use lib.Ieee.{Float, nan, inf, fin}
+use lib.Ieee.{nan, inf, fin}
 use lib.IntN.{ℤ, pos, negsuc}
-use mathlib.Core.Bool.{Bool, true, false}
-use mathlib.Core.List.{List, [], _∷_}
+use mathlib.Core.Bool.{true, false}
+use mathlib.Core.List.{[], _∷_}
 use mathlib.Core.Path.{_≡_}
-use Prim.Native.Nat.{ℕ}
 use Rattle.std.specs.declared.option.Option.{Option}
 use Rattle.std.specs.declared.option.Option.the-variants.{Some, None}
 use Rattle.ecma.specs.Comparison.{IsStrictlyEqual, SameValue, ToBoolean}

@@ -2,10 +2,10 @@
 -- Where the standard computes with real numbers and rounds, f64's own operation stands in (lib.Ieee); numberFor rounds likewise.
 use lib.Bits.{bitAnd, bitOr, bitXor}
 use lib.Dec.{eqb}
-use lib.Ieee.{Float, nan, inf, fin, up, down, unlike, binary64, round, neg, add, mul, div, lt, eq, isNan, ofInt}
-use lib.IntN.{ℤ, pos, negsuc, negℤ, natAbs, _-ℤ_, _*ℤ_}
+use lib.Ieee.{Float, nan, inf, fin, up, down, binary64, round, neg, add, mul, div, lt, eq, isNan, ofInt}
+use lib.IntN.{ℤ, pos, negℤ, natAbs, _-ℤ_, _*ℤ_}
 use lib.Signed.{nonNeg, quotZ, shrZ}
-use mathlib.Core.Bool.{Bool, true, false, not, cond, _&&_, _||_, Bool·beq}
+use mathlib.Core.Bool.{Bool, false, not, cond, _&&_, _||_, Bool·beq}
 use Prim.Native.Nat.{ℕ, _*_, _/_, _%_, _^_}
 use Rattle.std.specs.declared.option.Option.{Option}
 use Rattle.std.specs.declared.option.Option.the-variants.{Some, None}

@@ -1,7 +1,7 @@
 -- What each operator gives at known values, or nothing where it does not fold. h is StringToNumber, where it is known.
 use lib.Ieee.{Float, fin}
 use lib.IntN.{pos}
-use mathlib.Core.Bool.{Bool, true, false, not}
+use mathlib.Core.Bool.{Bool, false, not}
 use mathlib.Core.List.{List, [], _++_}
 use Prim.Native.Nat.{ℕ}
 use Rattle.std.specs.declared.option.Option.{Option}
@@ -17,7 +17,7 @@ use Rattle.ecma.specs.declared.operators.UnaryOperator.the-variants.{Minus, Pl
 use Rattle.ecma.specs.declared.operators.UpdateOperator.{UpdateOperator}
 use Rattle.ecma.specs.declared.operators.UpdateOperator.the-variants.{Increment, Decrement}
 use Rattle.ecma.specs.Number.{Number·unaryMinus, Number·add, Number·subtract, Number·multiply, Number·divide, Number·remainder, Number·lessThan, Number·bitwiseAND, Number·bitwiseXOR, Number·bitwiseOR, Number·leftShift, Number·signedRightShift, Number·unsignedRightShift}
-use Rattle.ecma.specs.Value.{Primitive, null, undefined, boolean, number, string, ifNumber, ifString}
+use Rattle.ecma.specs.Value.{Primitive, boolean, number, string, ifNumber, ifString}
 
 -- f at two Numbers, and nothing at any other pair
 abbrev arithmetic : (Float → Float → Float) → Primitive → Primitive → Option Primitive

@@ -1,9 +1,6 @@
 -- What an instruction of the script gives, where `known` has the values of the instructions before it.
-use denote.Ref.{now}
-use lib.Ieee.{Float}
 use lib.ListN.{getD}
 use mathlib.Core.List.{List}
-use Prim.Native.Nat.{ℕ}
 use Rattle.ecma.specs.Operators.{binaryFold, unaryFold}
 use Rattle.ecma.specs.Value.{Primitive, null, undefined, boolean, number, string, valueOf}
 use Rattle.ecma.specs.declared.primitive_value.PrimitiveValue.{PrimitiveValue}

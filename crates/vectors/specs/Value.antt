@@ -1,4 +1,3 @@
-use mathlib.Core.List.{List}
 use Rattle.ecma.specs.Value.{Primitive, null, undefined, boolean, number, string}
 use Rattle.vectors.specs.Text.{bytesOf}
 use Rattle.vectors.specs.declared.value.Value.{Value}
