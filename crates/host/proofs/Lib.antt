@@ -1,0 +1,3 @@
+pub mod Either
+mod ListedTexts
+mod Searches

@@ -1,0 +1,4 @@
+pub mod ClassTests
+pub mod Classes
+pub mod Sequences
+pub mod Units
