@@ -1,3 +1,4 @@
 pub mod Answers
 pub mod DigitHost
+pub mod Examples
 pub mod ListHost
