@@ -15,8 +15,6 @@ const HIDDEN: u64 = 0x0010_0000_0000_0000;
 
 const LOW_WORD: u64 = 0xffff_ffff;
 
-const SIGN: u64 = 0x8000_0000_0000_0000;
-
 // An exponent below 1023 leaves no whole part, and one above 1106 only multiples of 2^32; an
 // infinity and NaN have 2047.
 fn vanishes(exponent: u64) -> bool
@@ -51,6 +49,13 @@ fn magnitude(bits: u64) -> u32
     (whole & LOW_WORD) as u32
 }
 
+// The top bit is the sign.
+fn is_negative(bits: u64) -> bool
+    ensures { λ r. ⌜ r ≡ leb (2 ^ 63) bits ⌝ }
+{
+    bits >> 63 != 0
+}
+
 // The same low word for the number with its sign.
 fn with_sign(low: u32, negative: bool) -> u32
     ensures { λ r. ⌜ r ≡ cond negative ((2 ^ 32 - low) % 2 ^ 32) low ⌝ }
@@ -62,7 +67,7 @@ pub fn to_uint32(x: f64) -> u32
     ensures { λ r. ⌜ r ≡ ToUint32 x ⌝ }
 {
     let bits = FloatValue::new(x).bits();
-    with_sign(magnitude(bits), bits >= SIGN)
+    with_sign(magnitude(bits), is_negative(bits))
 }
 
 pub fn to_int32(x: f64) -> i32
