@@ -16,6 +16,9 @@ use ecma::PrimitiveValue;
 use ecma::same_value;
 use text::is_utf8;
 
+// The text of a number is no longer.
+const LONGEST: usize = 32;
+
 // The text of a number.
 #[derive(Clone, Copy)]
 pub struct TextEntry<'a> {
@@ -133,7 +136,7 @@ fn same_text(a: &[u8], b: &[u8]) -> bool
 fn is_text(bytes: &[u8]) -> bool
     ensures { λ r. ⌜ r ≡ (leb (length (now (bytes .entry))) 32 && isUtf8 (now (bytes .entry))) ⌝ }
 {
-    bytes.len() <= 32 && is_utf8(bytes)
+    bytes.len() <= LONGEST && is_utf8(bytes)
 }
 
 // Writes the text to the front of the buffer.
