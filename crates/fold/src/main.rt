@@ -1,5 +1,7 @@
 // Folds one small sizing script, from its first instruction to its last, and prints what each
 // instruction became.
+#![tactic(auto)]
+
 mod evaluation;
 mod operation;
 mod script;

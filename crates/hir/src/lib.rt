@@ -1,5 +1,7 @@
 // What a script is made of: kinds, operators, terminals and instructions, as the Rust's `hir` has them. Its
 // vectors are ranges of tables here, and its strings are numbers of texts. What they mean is in specs/.
+#![tactic(auto)]
+
 mod block;
 mod instruction;
 mod kinds;

@@ -1,4 +1,6 @@
 // Hosts: what turns numbers into texts and texts into numbers, and judges names.
+#![tactic(auto)]
+
 mod digit;
 mod digit_name;
 mod digit_number;

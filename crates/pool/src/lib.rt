@@ -1,3 +1,5 @@
+#![tactic(auto)]
+
 mod make;
 mod making;
 mod mark;

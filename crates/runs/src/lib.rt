@@ -1,5 +1,7 @@
 // What folding a script must not change: runs, and the law that rounds and tidies keep them. There are definitions
 // (specs/) and theorems about them, and no code that runs.
+#![tactic(auto)]
+
 mod cases;
 mod laws;
 

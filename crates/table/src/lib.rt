@@ -1,4 +1,6 @@
 // What every layer above shares: refusals, the kinds of number, and the one table.
+#![tactic(auto)]
+
 mod id;
 mod lent;
 mod refusal;

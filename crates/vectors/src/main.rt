@@ -1,5 +1,7 @@
 // Judges the vectors of standard input, each a line as src/line.rt has it: prints a line for each
 // that is malformed or wrong, and last how many there were.
+#![tactic(auto)]
+
 mod hex;
 mod judge;
 mod line;
