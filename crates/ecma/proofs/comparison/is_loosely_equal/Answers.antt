@@ -5,9 +5,9 @@ use Rattle.ecma.specs.Value.{value_of}
 
 pub returns-in-Some : goal.returns-in-Some
 returns-in-Some c =
-    c.number-equals.ensures ∙ from_left (λ _. c.args.text-number) (value_of c.args.x) (value_of c.args.y) c.in-Some.n (sym c.in-Some.ensures)
+    c.number_equals.ensures ∙ from_left (λ _. c.args.text_number) (value_of c.args.x) (value_of c.args.y) c.in-Some.n (sym c.in-Some.ensures)
 
 pub returns-in-Some-numeric : goal.returns-in-Some-numeric
 returns-in-Some-numeric c =
-    c.number-equals-in-Some-numeric.ensures
-    ∙ from_right (λ _. c.args.text-number) (value_of c.args.x) (value_of c.args.y) c.in-Some-numeric.n (sym c.in-Some-numeric.ensures)
+    c.number_equals-in-Some-numeric.ensures
+    ∙ from_right (λ _. c.args.text_number) (value_of c.args.x) (value_of c.args.y) c.in-Some-numeric.n (sym c.in-Some-numeric.ensures)

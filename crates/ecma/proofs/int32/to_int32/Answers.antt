@@ -6,5 +6,5 @@ use Rattle.ecma.specs.Integer.{to_int32, to_uint32, integer_of}
 pub returns : goal.returns
 unfolding to_int32 to_uint32
 returns c =
-    read_bits c.to-uint32.result c.cast-signed.result c.cast-signed.ensures c.to-uint32.type-inv c.cast-signed.type-inv
-    ∙ ap integer_of c.to-uint32.ensures
+    read_bits c.to_uint32.result c.cast_signed.result c.cast_signed.ensures c.to_uint32.type_inv c.cast_signed.type_inv
+    ∙ ap integer_of c.to_uint32.ensures

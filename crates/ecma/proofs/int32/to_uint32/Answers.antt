@@ -6,7 +6,7 @@ use Rattle.ecma.specs.Integer.{to_uint32}
 
 pub returns : goal.returns
 returns c =
-    c.with-sign.ensures
-    ∙ ap (λ (b : Bool). cond b ((2 ^ 32 - c.magnitude.result) % 2 ^ 32) c.magnitude.result) c.is-negative.ensures
+    c.with_sign.ensures
+    ∙ ap (λ (b : Bool). cond b ((2 ^ 32 - c.magnitude.result) % 2 ^ 32) c.magnitude.result) c.is_negative.ensures
     ∙ uint32_is c.bits-bits.result c.magnitude.result c.magnitude.ensures
     ∙ ap to_uint32 (ap (λ (b : ℕ). of_bits binary64 b) c.bits-bits.ensures ∙ c.new.ensures.value)

@@ -6,7 +6,7 @@ use Rattle.ecma.specs.Number.{number_bitwise_or}
 pub returns : goal.returns
 unfolding number_bitwise_or
 returns c =
-    let a = c.to-int32.result in
-    let b = c.to-int32-2.result in
-    bitwise bit_or a b _ _ c.to-int32.ensures c.to-int32-2.ensures c.to-int32.type-inv c.to-int32-2.type-inv
-    (or_lt 32 _ _ (of_z_lt a c.to-int32.type-inv) (of_z_lt b c.to-int32-2.type-inv))
+    let a = c.to_int32.result in
+    let b = c.to_int32-2.result in
+    bitwise bit_or a b _ _ c.to_int32.ensures c.to_int32-2.ensures c.to_int32.type_inv c.to_int32-2.type_inv
+    (or_lt 32 _ _ (of_z_lt a c.to_int32.type_inv) (of_z_lt b c.to_int32-2.type_inv))

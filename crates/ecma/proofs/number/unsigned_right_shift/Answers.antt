@@ -4,4 +4,4 @@ use Rattle.ecma.specs.Number.{number_unsigned_right_shift}
 
 pub returns : goal.returns
 unfolding number_unsigned_right_shift
-returns c = shift_right_zero c.to-uint32.result _ c.to-uint32-2.result _ c.to-uint32.ensures c.to-uint32-2.ensures
+returns c = shift_right_zero c.to_uint32.result _ c.to_uint32-2.result _ c.to_uint32.ensures c.to_uint32-2.ensures

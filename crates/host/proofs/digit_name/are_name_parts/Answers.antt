@@ -7,16 +7,16 @@ use Rattle.text.specs.Classes.{is_digit, is_name_start}
 abbrev is_part : ℕ → Bool
 is_part b = is_name_start b || is_digit b
 
-pub returns-then-not-is-name-part : goal.returns-then-not-is-name-part
-returns-then-not-is-name-part c =
+pub returns-then-not-is_name_part : goal.returns-then-not-is_name_part
+returns-then-not-is_name_part c =
     let byte = get_or c.args.text.now c.loop-byte.byte-index 0 in
-    let fails = part_by_class byte c.class.result false c.class.ensures c.if-not-is-name-part.ensures in
+    let fails = part_by_class byte c.class.result false c.class.ensures c.if-not-is_name_part.ensures in
     sym (fails_at is_part c.args.text.now c.loop-byte.byte-index c.loop-byte.invariant c.loop-byte-test.true fails)
 
 pub loop-byte-preserved : goal.loop-byte-preserved
 loop-byte-preserved c =
     let byte = get_or c.args.text.now c.loop-byte.byte-index 0 in
-    let passes = part_by_class byte c.class.result true c.class.ensures c.if-not-is-name-part.ensures in
+    let passes = part_by_class byte c.class.result true c.class.ensures c.if-not-is_name_part.ensures in
     passes_at is_part c.args.text.now c.loop-byte.byte-index c.loop-byte.invariant c.loop-byte-test.true passes
 
 pub returns : goal.returns

@@ -9,25 +9,25 @@ use Rattle.std.proofs.lemmas.Bool.{cond-false, cond-true}
 use Rattle.std.specs.Str.Parse.{digits_value}
 use Rattle.text.specs.Classes.{is_digit}
 
-pub returns-then-not-is-digit : goal.returns-then-not-is-digit
-returns-then-not-is-digit c =
+pub returns-then-not-is_digit : goal.returns-then-not-is_digit
+returns-then-not-is_digit c =
     let byte = get_or c.args.text.now c.loop-byte.byte-index 0 in
-    let fails = digit_by_class byte c.class.result false c.class.ensures c.if-not-is-digit.ensures in
+    let fails = digit_by_class byte c.class.result false c.class.ensures c.if-not-is_digit.ensures in
     let none = fails_at is_digit c.args.text.now c.loop-byte.byte-index c.loop-byte.invariant.0 c.loop-byte-test.true fails in
     record { value = sym (cond-false _ _ _ none); small = tt }
 
-pub overflow-mul-value : goal.overflow-mul-value
-overflow-mul-value c =
+pub overflow_mul-value : goal.overflow_mul-value
+overflow_mul-value c =
     let inv = c.loop-byte.invariant in
     omega (arith, front_below c.args.text.now c.loop-byte.byte-index 14 c.loop-byte.value inv.1 inv.2 (omega arith) (omega arith))
 
 passes : (c : goal.After-from) → is_digit (get_or c.args.text.now c.loop-byte.byte-index 0) ≡ true
 passes c =
     let byte = get_or c.args.text.now c.loop-byte.byte-index 0 in
-    digit_by_class byte c.class.result true c.class.ensures c.if-not-is-digit.ensures
+    digit_by_class byte c.class.result true c.class.ensures c.if-not-is_digit.ensures
 
-pub overflow-add-value : goal.overflow-add-value
-overflow-add-value c =
+pub overflow_add-value : goal.overflow_add-value
+overflow_add-value c =
     let inv = c.loop-byte.invariant in
     let digit = digit_adds (get_or c.args.text.now c.loop-byte.byte-index 0) (passes c) in
     omega (arith, front_below c.args.text.now c.loop-byte.byte-index 14 c.loop-byte.value inv.1 inv.2 (omega arith) (omega arith))

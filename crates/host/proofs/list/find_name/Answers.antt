@@ -8,13 +8,13 @@ use Rattle.std.proofs.lemmas.List.{at_drop_all}
 abbrev blank : NameEntry
 blank = record { text = record { ref_ptr = (0, 0); now = [] }; valid = false }
 
-pub returns-then-same-text : goal.returns-then-same-text
-returns-then-same-text c =
-    sym (c.loop-entry.invariant ∙ step _ _ c.args.entries.now c.loop-entry.entry-index blank c.loop-entry-test.true (sym c.if-same-text.ensures))
+pub returns-then-same_text : goal.returns-then-same_text
+returns-then-same_text c =
+    sym (c.loop-entry.invariant ∙ step _ _ c.args.entries.now c.loop-entry.entry-index blank c.loop-entry-test.true (sym c.if-same_text.ensures))
 
 pub loop-entry-preserved : goal.loop-entry-preserved
 loop-entry-preserved c =
-    c.loop-entry.invariant ∙ step _ _ c.args.entries.now c.loop-entry.entry-index blank c.loop-entry-test.true (sym c.if-same-text.ensures)
+    c.loop-entry.invariant ∙ step _ _ c.args.entries.now c.loop-entry.entry-index blank c.loop-entry-test.true (sym c.if-same_text.ensures)
 
 pub returns : goal.returns
 returns c =

@@ -9,13 +9,13 @@ use Rattle.std.proofs.lemmas.List.{at_drop_all}
 abbrev blank : TextEntry
 blank = record { number = nan; text = record { ref_ptr = (0, 0); now = [] } }
 
-pub returns-then-has-text : goal.returns-then-has-text
-returns-then-has-text c =
-    sym (c.loop-entry.invariant ∙ step _ _ c.args.entries.now c.loop-entry.entry-index blank c.loop-entry-test.true (sym c.if-has-text.ensures))
+pub returns-then-has_text : goal.returns-then-has_text
+returns-then-has_text c =
+    sym (c.loop-entry.invariant ∙ step _ _ c.args.entries.now c.loop-entry.entry-index blank c.loop-entry-test.true (sym c.if-has_text.ensures))
 
 pub loop-entry-preserved : goal.loop-entry-preserved
 loop-entry-preserved c =
-    c.loop-entry.invariant ∙ step _ _ c.args.entries.now c.loop-entry.entry-index blank c.loop-entry-test.true (sym c.if-has-text.ensures)
+    c.loop-entry.invariant ∙ step _ _ c.args.entries.now c.loop-entry.entry-index blank c.loop-entry-test.true (sym c.if-has_text.ensures)
 
 pub returns : goal.returns
 returns c =

@@ -16,7 +16,7 @@ returns-in-Some c =
     let fits : leb (m.bytes + length text) (bytes_room pool) ≡ true = grind (arith, nat_tests) in
     let room : m.bytes + length text ≤ bytes_room pool = grind (arith, nat_tests) in
     let free : m.rows < rows_room rows = grind (arith, nat_tests) in
-    let utf8 = c.is-utf8.ensures.0 c.if-not-is-utf8.false in
+    let utf8 = c.is_utf8.ensures.0 c.if-not-is_utf8.false in
     record {
       answer = (free, utf8, room, cc);
       unchanged = λ e. (cc, cc, cc);

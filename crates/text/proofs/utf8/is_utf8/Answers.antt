@@ -6,11 +6,11 @@ use Rattle.std.proofs.str.Valid.{longer, whole}
 use Rattle.text.proofs.Sequences.{BeginsAt, begins}
 use Rattle.text.proofs.utf8.is_utf8.Goals as goal
 
-pub returns-in-default : goal.returns-in-default
-returns-in-default c =
+pub returns-in_default : goal.returns-in_default
+returns-in_default c =
     let bs = c.args.bytes.now in
     let at = c.loop-at.at in
-    let none = subst (BeginsAt bs at) (sym c.in-default.ensures) (begins bs at c.loop-at-test.true) in
+    let none = subst (BeginsAt bs at) (sym c.in_default.ensures) (begins bs at c.loop-at-test.true) in
     let fault = valid_to bs at c.loop-at-test.true c.loop-at.invariant.1 none in
     (λ no. absurd (false≢true no), λ text. absurd (not_text bs at fault text))
 
@@ -20,8 +20,8 @@ step c =
     let at = c.loop-at.at in
     subst (BeginsAt bs at) (sym c.in-Some.ensures) (begins bs at c.loop-at-test.true)
 
-pub overflow-add-at : goal.overflow-add-at
-overflow-add-at c = let s = step c in omega arith
+pub overflow_add-at : goal.overflow_add-at
+overflow_add-at c = let s = step c in omega arith
 
 pub loop-at-smaller : goal.loop-at-smaller
 loop-at-smaller c = let s = step c in omega arith

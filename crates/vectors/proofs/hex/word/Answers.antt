@@ -29,26 +29,26 @@ whole : (ds : List ℕ) (r : Option ℕ) → length ds ≡ 16 → r ≡ number d
 whole ds r h e =
     e ∙ sym (ap (λ b. cond b (number ds) None) (eq-eqb (length ds) 16 h))
 
-pub overflow-mul-number : goal.overflow-mul-number
-overflow-mul-number c =
+pub overflow_mul-number : goal.overflow_mul-number
+overflow_mul-number c =
     let h : c.loop-byte.byte-index < 16 = omega arith in
     let k : c.loop-byte.number * 16 + 0 < 16 ^ (c.loop-byte.byte-index + 1) = room _ 0 _ c.loop-byte.invariant.0 (omega arith) in
     omega (arith, sixteen _ _ k h)
 
-pub returns-in-err-digit : goal.returns-in-err-digit
-returns-in-err-digit c =
+pub returns-in_err-digit : goal.returns-in_err-digit
+returns-in_err-digit c =
     whole _ _ c.if-digits-ne16.false
-    (c.from-residual.ensures ∙ (sym (next _ _ _ None c.loop-byte-test.true c.in-err-digit.ensures) ∙ c.loop-byte.invariant.1))
+    (c.from-residual.ensures ∙ (sym (next _ _ _ None c.loop-byte-test.true c.in_err-digit.ensures) ∙ c.loop-byte.invariant.1))
 
 byte_at : goal.After-from → ℕ
 byte_at c = get_or c.args.digits.now c.loop-byte.byte-index 0
 
 read : (c : goal.After-from) → Some c.from.result ≡ digit_of (byte_at c)
 unfolding byte_at
-read c = ap Some c.from.ensures ∙ c.in-ok-digit.ensures
+read c = ap Some c.from.ensures ∙ c.in_ok-digit.ensures
 
-pub overflow-add-number : goal.overflow-add-number
-overflow-add-number c =
+pub overflow_add-number : goal.overflow_add-number
+overflow_add-number c =
     let h : c.loop-byte.byte-index < 16 = omega arith in
     let d : c.from.result < 16 = small (byte_at c) _ (read c) in
     omega (arith, sixteen _ _ (room _ _ _ c.loop-byte.invariant.0 d) h)

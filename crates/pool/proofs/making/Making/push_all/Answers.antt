@@ -26,10 +26,10 @@ loop-piece-preserved c =
     let p = get_or ps k None in
     let before = c.loop-piece.invariant in
     let used = c.loop-piece.self.mark.now.bytes in
-    let r = c.push-piece.result in
-    let used' = c.push-piece.new.self.mark.now.bytes in
-    let pool' = c.push-piece.new.pool in
-    let e = c.push-piece.ensures in
+    let r = c.push_piece.result in
+    let used' = c.push_piece.new.self.mark.now.bytes in
+    let pool' = c.push_piece.new.pool in
+    let e = c.push_piece.ensures in
     let pushed =
     subst (λ (m : ℕ). Pushed (piece_bytes n m rows c.loop-piece.pool p) used c.loop-piece.pool r used' pool') before.1
     (subst (λ (m : ℕ). Pushed (piece_bytes m c.loop-piece.self.start rows c.loop-piece.pool p) used c.loop-piece.pool r used' pool') before.3 e.pushed) in (
@@ -38,11 +38,11 @@ loop-piece-preserved c =
       e.kept ∙ before.2,
       e.rows ∙ before.3,
       subst (λ (qs : List (Option Piece)). So-far n b rows pool qs used' pool') (sym (take_more ps k None c.loop-piece-test.true))
-          (one_more n b rows pool (take k ps) used c.loop-piece.pool before.4 p r used' pool' pushed (ap is_some c.in-ok-push-piece.was)),
+          (one_more n b rows pool (take k ps) used c.loop-piece.pool before.4 p r used' pool' pushed (ap is_some c.in_ok-push_piece.was)),
     )
 
-pub returns-in-err-push-piece : goal.returns-in-err-push-piece
-returns-in-err-push-piece c =
+pub returns-in_err-push_piece : goal.returns-in_err-push_piece
+returns-in_err-push_piece c =
     let making = c.args.self.now in
     let n = making.mark.now.rows in
     let b = making.start in
@@ -53,10 +53,10 @@ returns-in-err-push-piece c =
     let p = get_or ps k None in
     let before = c.loop-piece.invariant in
     let used = c.loop-piece.self.mark.now.bytes in
-    let r = c.push-piece.result in
-    let used' = c.push-piece.new.self.mark.now.bytes in
-    let pool' = c.push-piece.new.pool in
-    let e = c.push-piece.ensures in
+    let r = c.push_piece.result in
+    let used' = c.push_piece.new.self.mark.now.bytes in
+    let pool' = c.push_piece.new.pool in
+    let e = c.push_piece.ensures in
     let pushed =
     subst (λ (m : ℕ). Pushed (piece_bytes n m rows c.loop-piece.pool p) used c.loop-piece.pool r used' pool') before.1
     (subst (λ (m : ℕ). Pushed (piece_bytes m c.loop-piece.self.start rows c.loop-piece.pool p) used c.loop-piece.pool r used' pool') before.3 e.pushed) in
@@ -67,8 +67,8 @@ returns-in-err-push-piece c =
       kept = e.kept ∙ before.2;
       rows = e.rows ∙ before.3;
       gathered =
-          subst (λ (o : Option (Unit {0})). Gathered n b rows pool ps o used' pool') (c.in-err-push-piece.was ∙ sym c.from-residual.ensures)
-          (stopped n b rows pool (take k ps) used c.loop-piece.pool before.4 p (drop (k + 1) ps) ps all r used' pool' pushed (ap is_some c.in-err-push-piece.was));
+          subst (λ (o : Option (Unit {0})). Gathered n b rows pool ps o used' pool') (c.in_err-push_piece.was ∙ sym c.from-residual.ensures)
+          (stopped n b rows pool (take k ps) used c.loop-piece.pool before.4 p (drop (k + 1) ps) ps all r used' pool' pushed (ap is_some c.in_err-push_piece.was));
     }
 
 pub returns : goal.returns

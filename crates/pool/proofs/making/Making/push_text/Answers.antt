@@ -8,9 +8,9 @@ pub returns : goal.returns
 returns c =
     let making = c.args.self.now in
     let pool = c.args.pool.now in
-    let row = c.in-ok-row.row in
-    let p = c.push-part.ensures in
-    let named = c.in-ok-row.ensures in
+    let row = c.in_ok-row.row in
+    let p = c.push_part.ensures in
+    let named = c.in_ok-row.ensures in
     let start = making.start in
     let used = making.mark.now.bytes in
     let below = below_inside start (cond (ltb c.args.id.number making.mark.now.rows) (entry 4096 c.args.rows.now c.args.id.number) None) row named in
@@ -20,6 +20,6 @@ returns c =
       kept = p.kept;
       rows = p.rows;
       pushed =
-          subst (λ (t : Option (List ℕ)). Pushed t used pool c.push-part.result c.push-part.new.self.mark.now.bytes c.push-part.new.pool) (ap (text_of pool) named)
-          (part_pushed pool start used row c.push-part.result c.push-part.new.self.mark.now.bytes c.push-part.new.pool below c.requires p.test p.bytes p.pool);
+          subst (λ (t : Option (List ℕ)). Pushed t used pool c.push_part.result c.push_part.new.self.mark.now.bytes c.push_part.new.pool) (ap (text_of pool) named)
+          (part_pushed pool start used row c.push_part.result c.push_part.new.self.mark.now.bytes c.push_part.new.pool below c.requires p.test p.bytes p.pool);
     }

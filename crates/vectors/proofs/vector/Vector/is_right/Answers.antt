@@ -23,4 +23,4 @@ viewed q o x y n l r a e t asked left right answer h =
 
 pub returns-in-Binary : goal.returns-in-Binary
 returns-in-Binary c =
-    viewed _ _ _ _ _ _ _ _ _ _ c.in-Binary.is c.view.ensures c.view-in-Binary.ensures c.viewed-expected.ensures c.folds-to.ensures
+    viewed _ _ _ _ _ _ _ _ _ _ c.in-Binary.is c.view.ensures c.view-in-Binary.ensures c.viewed-expected.ensures c.folds_to.ensures
