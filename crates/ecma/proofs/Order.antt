@@ -1,4 +1,4 @@
--- Order and equality of Numbers: `<=` is the opposite of `>` but at not_a_number, equality goes both ways, only a zero equals +0.
+-- Order and equality of Numbers: `<=` is the opposite of `>` but at NaN, equality goes both ways, only a zero equals +0.
 use Rattle.std.proofs.Common.{◌≡◌, ℕ, zero, suc, ◌*◌, ◌<◌, Bool, true, false, not, ◌&&◌, ◌||◌, eqb, ℤ, sym, refl, ap, ◌∙◌, zero-lt-suc, mul-pos, zero-mul, arith, lit<}
 use lib.Ieee.{Float, nan, inf, fin, up, down, below, level, lt, le, eq, is_nan, binary64, of_bits}
 use lib.Ieee.Fits.{up_pos}

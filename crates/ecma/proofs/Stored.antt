@@ -1,4 +1,4 @@
--- A Number and its stored bits: each is had from the other, and not_a_number has one pattern.
+-- A Number and its stored bits: each is had from the other, and NaN has one pattern.
 use Rattle.std.proofs.Common.{◌≡◌, ℕ, ◌+◌, ◌-◌, ◌*◌, ◌/◌, ◌^◌, Bool, true, false, cond, T, ℤ, Decides, sym, refl, ap, ◌∙◌, subst, mul_right_comm, eqb→eq, eq-eqb}
 use lib.Ieee.{Float, nan, inf, fin, up, down, size, binary64, fits, is_nan, of_bits, to_bits}
 use lib.Ieee.Bits.{of_bits-to_bits}
@@ -10,7 +10,7 @@ use Rattle.ecma.specs.Number.{number_same_value}
 pub read_back : (x : Float) (b : ℕ) → T (fits binary64 x) → b ≡ to_bits binary64 x → of_bits binary64 b ≡ x
 read_back x b f e = ap (of_bits binary64) e ∙ of_bits-to_bits binary64 x f
 
--- only not_a_number is written as a not_a_number, and that is one pattern
+-- only NaN is written as a NaN, and that is one pattern
 nan_only : (x : Float) → is_nan x ≡ true → to_bits binary64 x ≡ 0x7ff8_0000_0000_0000
 unfolding to_bits is_nan
 nan_only nan h = refl

@@ -49,7 +49,7 @@ abbrev pub to_number : Bool → Float
 to_number b = cond b (fin false 1 (pos 0)) (fin false 0 (pos 0))
 
 -- is_loosely_equal of a Number and a value. h is StringToNumber where it is known: there is no answer where it is needed and
--- silent, be the Number not_a_number or not.
+-- silent, be the Number NaN or not.
 abbrev pub number_equals : (List ℕ → Option Float) → Float → Primitive → Option Bool
 number_equals h x null = Some false
 number_equals h x undefined = Some false

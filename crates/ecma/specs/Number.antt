@@ -58,14 +58,14 @@ number_remainder (fin s m e) (fin t k c) =
 
 -- ---- comparison
 
--- undefined where one of the two is not_a_number
+-- undefined where one of the two is NaN
 abbrev pub number_less_than : Float → Float → Option Bool
 number_less_than x y = cond (is_nan x || is_nan y) None (Some (lt x y))
 
 abbrev pub number_equal : Float → Float → Bool
 number_equal x y = eq x y
 
--- the same value: not_a_number is itself, and the zeros differ by their sign
+-- the same value: NaN is itself, and the zeros differ by their sign
 unfoldable pub number_same_value : Float → Float → Bool
 number_same_value nan y = is_nan y
 number_same_value (inf s) nan = false

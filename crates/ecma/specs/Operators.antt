@@ -24,7 +24,7 @@ relation f x y = if_number (λ a. if_number (λ b. Some (boolean (f a b))) None 
 abbrev concatenation : Primitive → Primitive → Option Primitive
 concatenation x y = if_string (λ a. if_string (λ b. Some (string (a ++ b))) None y) None x
 
--- Number::lessThan answers undefined at not_a_number, and neither is then the case.
+-- Number::lessThan answers undefined at NaN, and neither is then the case.
 abbrev pub is_true : Option Bool → Bool
 is_true None = false
 is_true (Some b) = b

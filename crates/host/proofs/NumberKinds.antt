@@ -1,4 +1,4 @@
--- The text of not_a_number and of an infinity, by the tests for them, and that any other number is finite.
+-- The text of NaN and of an infinity, by the tests for them, and that any other number is finite.
 use Rattle.std.proofs.Common.{◌≡◌, true, false, cond, Some, codes, sym, refl}
 use lib.Ieee.{Float, nan, inf, fin, is_nan}
 use Rattle.host.specs.DigitHost.{number_text}

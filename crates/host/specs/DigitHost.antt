@@ -6,7 +6,7 @@ use Rattle.std.specs.Str.Parse.{digits_value}
 use Rattle.std.specs.Str.{bytes_eq}
 use Rattle.text.specs.Classes.{is_digit, is_name_start}
 
--- ---- the text of a number: not_a_number, the infinities, and the whole numbers up to 2 ^ 53 - 1 either way
+-- ---- the text of a number: NaN, the infinities, and the whole numbers up to 2 ^ 53 - 1 either way
 
 -- both zeros are written 0
 abbrev pub whole_text : Bool → ℕ → List ℕ

@@ -69,7 +69,7 @@ pub record EightCases : Type 0 where
   pub true_and_one : binary_fold text_number operator.Equality (value.boolean true) (value.string (codes "1")) ≡ Some (value.boolean true)
   -- 6: the length of 61 F0 9F 98 80
   pub three_units : length_fold (Some (value.string (97 ∷ 240 ∷ 159 ∷ 152 ∷ 128 ∷ []))) (Some (value.string (codes "length"))) ≡ Some (value.number (int (pos 3)))
-  -- 7: a phi of one not_a_number, and of two
+  -- 7: a phi of one NaN, and of two
   pub one_nan : phi_constant [] (Some (primitive_constant (script.number nan) None) ∷ []) ≡ Some (primitive_constant (script.number nan) None)
   pub two_nans : phi_constant [] (Some (primitive_constant (script.number nan) None) ∷ Some (primitive_constant (script.number nan) None) ∷ []) ≡ None
   -- 8: the seal accepts the script with two branches; the round turns the If, and the tidy sets block 2 aside and leaves Return 3

@@ -84,7 +84,7 @@ missing_piece = sealing 3 (single (codes "a" ∷ codes "b" ∷ []) (is 1 (script
 abbrev empty_join : Body
 empty_join = sealing 3 (single ([] ∷ [] ∷ []) (is 1 (script.text 0) ∷ binary 2 operator.Addition 1 1 None ∷ []))
 
--- 1 is not_a_number; If 1 to 1, else 2; and a Branch that goes the same ways
+-- 1 is NaN; If 1 to 1, else 2; and a Branch that goes the same ways
 abbrev on_nan : (ℕ → ℕ → ℕ → ℕ → Terminal) → Body
 on_nan t = sealing 2 (record {
   texts = [];
@@ -186,7 +186,7 @@ pub record RunExamples : Type 0 where
   -- A missing piece wins over a text that does not fit.
   pub no_stop : (round digits no_bytes missing_piece).stop ≡ None
   pub left_alone : record_in (folded no_bytes missing_piece) 2 ≡ None
-  -- not_a_number is false, and a Branch is never turned.
+  -- NaN is false, and a Branch is never turned.
   pub nan_to_alternate : (block_at (folded ample (on_nan when)).blocks 0).terminal ≡ to_block 2
   pub branch_stays : (folded ample (on_nan (λ x c a f. branch x c a f None))).turned_ifs ≡ 0
   -- The last instruction of a Sequence block is left out.

@@ -8,7 +8,7 @@ pub returns : goal.returns
 returns c =
     let x = c.args.x in
     let y = c.args.y in
-    let fx = subst T (sym c.good.0.1) tt in
-    let fy = subst T (sym c.good.1.0.1) tt in
+    let fx = subst T (sym c.well_formed.0.1) tt in
+    let fy = subst T (sym c.well_formed.1.0.1) tt in
     let d = bits_decide x y fx fy c.new.result.bits c.new-2.result.bits c.eq.result c.new.ensures.bits c.new-2.ensures.bits c.eq.ensures in
     record { value = same_from_decides c.eq.result (number_same_value x y) d (same_decides x y fx fy); decides = d }

@@ -4,7 +4,7 @@ use Rattle.ecma.proofs.Stored.{one_nan, read_back}
 
 pub invariant_of-result : goal.invariant_of-result
 invariant_of-result c =
-    (one_nan c.args.value c.f64_to_bits_with_nan.result (subst T (sym c.well_formed.0.1) tt) c.f64_to_bits_with_nan.ensures, tt)
+    record { canonical = one_nan c.args.value c.f64_to_bits_with_nan.result (subst T (sym c.well_formed.0.1) tt) c.f64_to_bits_with_nan.ensures }
 
 pub returns : goal.returns
 returns c =

@@ -67,7 +67,7 @@ returns-in_err-push_piece c =
       kept = e.kept ∙ before.2;
       rows = e.rows ∙ before.3;
       gathered =
-          subst (λ (o : Option (Unit {0})). Gathered n b rows pool ps o used' pool') (c.in_err-push_piece.was ∙ sym c.from-residual.ensures)
+          subst (λ (o : Option (Unit {0})). Gathered n b rows pool ps o used' pool') (c.in_err-push_piece.was ∙ sym c.from_residual.ensures)
           (stopped n b rows pool (take k ps) used c.loop-piece.pool before.4 p (drop (k + 1) ps) ps all r used' pool' pushed (ap is_some c.in_err-push_piece.was));
     }
 
