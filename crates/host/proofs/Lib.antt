@@ -3,8 +3,6 @@ mod DecimalEnd
 mod DigitValue
 mod Every
 mod FloatLiterals
-mod ListedTexts
-mod Matched
 mod NumberKinds
 mod Searches
 mod WholeNumber

@@ -1,6 +1,7 @@
 pub mod Answers
 pub mod DigitHost
+pub mod Either
 pub mod Examples
 pub mod ListHost
+pub mod ListedTexts
 pub mod ShortTexts
-pub mod Either

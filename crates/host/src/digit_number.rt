@@ -26,7 +26,7 @@ pub fn text_number(text: &[u8]) -> Option<f64>
 fn number_after_sign(minus: bool, text: &[u8]) -> Option<f64>
     ensures { result ≡ unsigned_text minus text.now }
 {
-    if text == b"Infinity" {
+    if text == b"Infinity".as_slice() {
         return Some(infinity(minus));
     }
     let number = short_value(text)?;

@@ -3,6 +3,7 @@ ghost use Rattle.std.specs.Prelude.{◌≡◌, ◌≤◌, ◌&&◌, ◌++◌, le
 ghost use Rattle.ecma.specs.Number.{number_same_value};
 ghost use Rattle.ecma.specs.declared.primitive_value.PrimitiveValue.TheVariants.{Number};
 ghost use Rattle.host.specs.ListHost.{is_utf8, listed_name, listed_number, listed_text};
+ghost use Rattle.host.specs.ListedTexts.{listed_bounded};
 ghost use Rattle.std.specs.Option.{option_map};
 ghost use Rattle.std.specs.Str.{bytes_eq};
 
@@ -48,6 +49,8 @@ impl Host for ListHost<'_> {
     ghost numbers = { λ h t. listed_number h.numbers.now t };
 
     ghost names = { λ h t. listed_name h.names.now t };
+
+    ghost bounded = { λ h x t e. listed_bounded h.texts.now x t e };
 
     fn number_text(&self, number: f64, buffer: &mut [u8; 32]) -> Option<usize> {
         match find_text(self.texts, number) {

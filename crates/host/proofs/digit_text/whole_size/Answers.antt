@@ -8,14 +8,14 @@ returns-then-whole-gt-MAX_SAFE_INTEGER c =
     let whole = c.saturating_f64_to_u64-whole in
     no_text_from c.args.number c.abs-size.result whole.result c.requires c.abs-size.ensures.value whole.ensures (omega arith)
 
-pub returns-then-whole_size : goal.returns-then-whole_size
-returns-then-whole_size c =
+pub returns-then-whole-size : goal.returns-then-whole-size
+returns-then-whole-size c =
     let whole = c.saturating_f64_to_u64-whole in
     let text = text_by_size c.args.number c.abs-size.result whole.result c.requires c.abs-size.ensures.value whole.ensures (omega arith) in
-    (omega arith, text ∙ cond-true _ _ _ c.if-whole_size.true)
+    (omega arith, text ∙ cond-true _ _ _ c.if-whole-size.true)
 
-pub returns-else-whole_size : goal.returns-else-whole_size
-returns-else-whole_size c =
+pub returns-else-whole-size : goal.returns-else-whole-size
+returns-else-whole-size c =
     let whole = c.saturating_f64_to_u64-whole in
     let text = text_by_size c.args.number c.abs-size.result whole.result c.requires c.abs-size.ensures.value whole.ensures (omega arith) in
-    text ∙ cond-false _ _ _ c.if-whole_size.false
+    text ∙ cond-false _ _ _ c.if-whole-size.false

@@ -1,6 +1,6 @@
 use Rattle.std.proofs.Common.{arith}
 use Rattle.host.proofs.list.is_text.Goals as goal
-use Rattle.host.proofs.ListedTexts.{is_utf8-decides}
+use Rattle.host.specs.ListedTexts.{is_utf8-decides}
 use Rattle.host.specs.ListHost.{is_utf8}
 use Rattle.std.proofs.lemmas.Bool.Decides.{same_from_decides, nat_tests}
 

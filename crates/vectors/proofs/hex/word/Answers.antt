@@ -38,7 +38,7 @@ overflow_mul-number c =
 pub returns-in_err-digit : goal.returns-in_err-digit
 returns-in_err-digit c =
     whole _ _ c.if-digits-ne16.false
-    (c.from-residual.ensures ∙ (sym (next _ _ _ None c.loop-byte-test.true c.in_err-digit.ensures) ∙ c.loop-byte.invariant.1))
+    (c.from_residual.ensures ∙ (sym (next _ _ _ None c.loop-byte-test.true c.in_err-digit.ensures) ∙ c.loop-byte.invariant.1))
 
 byte_at : goal.After-from → ℕ
 byte_at c = get_or c.args.digits.now c.loop-byte.byte-index 0

@@ -1,6 +1,6 @@
 use Rattle.std.proofs.Common.{ℕ, List, length, take, Some, Option, sym, refl, ap, ◌∙◌, subst}
 use Rattle.host.proofs.list.ListHostHost.number_text.Goals as goal
-use Rattle.host.proofs.ListedTexts.{listed_bounded}
+use Rattle.host.specs.ListedTexts.{listed_bounded}
 use Rattle.host.specs.Answers.{Wrote}
 use Rattle.std.proofs.lemmas.List.{take_at}
 
