@@ -1,5 +1,5 @@
 -- The test of UTF-8 decides it, and every text that is listed for a number is bounded.
-use Rattle.std.specs.Prelude.{◌≡◌, ℕ, Bool, true, cond, ◌&&◌, nat_le, List, [], ◌∷◌, length, Some, IsUtf8, Decides, Float, ◌==◌}
+use Rattle.std.specs.Prelude.{◌≡◌, ℕ, Bool, true, cond, ◌&&◌, nat_le, List, [], ◌∷◌, length, Some, IsUtf8, Decides, Float}
 use Rattle.std.proofs.Common.{sym, ap, ◌∙◌, subst, ⊎_elim, arith}
 use Rattle.std.proofs.Math.Utf8.{encodes}
 use Rattle.ecma.specs.Number.{number_same_value}

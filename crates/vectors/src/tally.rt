@@ -119,6 +119,7 @@ mod tests {
                     line: 2,
                     flaw: Flaw::Wrong,
                 }]
+                .as_slice()
         );
         let shown = format!(in rt.alloc(); "{tally}")?;
         assert_eq!(rt; shown.as_str(), "vectors 3 wrong 1");
