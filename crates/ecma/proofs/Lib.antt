@@ -1,4 +1,6 @@
 pub mod Clash
+pub mod ExactRemainder
+pub mod LeftOver
 pub mod LooseEquality
 pub mod Order
 pub mod Remainder

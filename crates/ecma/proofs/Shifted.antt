@@ -9,7 +9,7 @@ pow_split k l h = let e : l ≡ l - k + k = omega arith in ap (λ (x : ℕ). 2 ^
 pub down_shift : (a k l : ℕ) → k ≤ l → a * 2 ^ k / 2 ^ l ≡ a / 2 ^ (l - k)
 down_shift a k l h = ap (λ (x : ℕ). a * 2 ^ k / x) (pow_split k l h) ∙ mul-div-mul_right a (2 ^ (l - k)) (pow_pos k)
 
-regroup : (a k l : ℕ) → l ≤ k → a * 2 ^ k ≡ a * 2 ^ (k - l) * 2 ^ l
+pub regroup : (a k l : ℕ) → l ≤ k → a * 2 ^ k ≡ a * 2 ^ (k - l) * 2 ^ l
 regroup a k l h = ap (λ (x : ℕ). a * x) (pow_split l k h) ∙ sym (mul_assoc a (2 ^ (k - l)) (2 ^ l))
 
 pub up_shift : (a k l : ℕ) → l ≤ k → a * 2 ^ k / 2 ^ l ≡ a * 2 ^ (k - l)

@@ -112,7 +112,7 @@ from_2^84 s x t h g = go (eqb x 2047) (eqb_tells x 2047)
 abbrev pub field : ℕ → ℕ
 field b = b % 2 ^ 63 / 2 ^ 52
 
-by_fields : (b : ℕ) → of_bits binary64 b ≡ of_fields binary64 (leb (2 ^ 63) b) (field b) (b % 2 ^ 52)
+pub by_fields : (b : ℕ) → of_bits binary64 b ≡ of_fields binary64 (leb (2 ^ 63) b) (field b) (b % 2 ^ 52)
 unfolding of_bits
 by_fields b = refl
 

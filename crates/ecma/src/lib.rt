@@ -7,6 +7,7 @@ mod examples;
 mod float_value;
 mod folds;
 mod int32;
+mod multiples;
 mod number;
 mod operators;
 mod primitive_value;

@@ -5,13 +5,14 @@ ghost use Rattle.std.specs.Prelude.{◌≡◌, Decides};
 
 use crate::float_value::FloatValue;
 use crate::int32::{to_int32, to_uint32};
+use crate::multiples::remainder_of;
 
 const COUNT: u32 = 0x1f;
 
 pub(crate) fn remainder(n: f64, d: f64) -> f64
     ensures { result ≡ number_remainder n d }
 {
-    n % d
+    remainder_of(n, d)
 }
 
 pub(crate) fn is_zero(x: f64) -> bool
