@@ -10,7 +10,7 @@ use Rattle.hir.specs.Seal.{EdgeFault, Fault, First, FirstCause, Free, Part, PhiF
 use Rattle.hir.specs.Seal.{parameter, phi, instruction, terminal, end, further}
 use Rattle.std.proofs.lemmas.List.{get_or_past}
 use Rattle.std.proofs.lemmas.Bool.{and_parts, both_ways, cases_lt, eqb-true, false≢true, leb-true, or_cases}
-use Rattle.std.specs.List.{AllByRecursion as All}
+use Rattle.std.specs.List.{AllByRecursion}
 use Rattle.table.specs.declared.refusal.Cause.{Cause}
 use Rattle.table.specs.declared.refusal.Cause.TheVariants.{TableFull, NotUtf8, TextDoesNotFit, NamesNothing, KindNotTaken, NoTerminal, AssignedTwice, PhiOperands, EdgeBack, UseBeforeDefinition}
 
@@ -203,7 +203,7 @@ module _ (room : ℕ) (k : Certificate) (s : Script) (ok : linked k s ≡ true) 
   free_by c earlier [] e = tt
   free_by c earlier (p ∷ ps) e = (sound c p earlier (and_parts _ _ e).0, free_by c (p ∷ earlier) ps (and_parts _ _ e).1)
 
-  all_free : (cs : List Cause) → tested_causes room k s cs ≡ true → All (λ c. Free room s c [] (parts s)) cs
+  all_free : (cs : List Cause) → tested_causes room k s cs ≡ true → AllByRecursion (λ c. Free room s c [] (parts s)) cs
   all_free [] e = tt
   all_free (c ∷ cs) e = (free_by c [] (parts s) (and_parts _ _ e).0, all_free cs (and_parts _ _ e).1)
 

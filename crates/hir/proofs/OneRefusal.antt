@@ -2,7 +2,7 @@
 use Rattle.std.proofs.Common.{◌≡◌, ℕ, ◌-◌, List, [], ◌∷◌, get_or, sym, refl, ap, ◌∙◌, inl, inr}
 use Rattle.hir.specs.Script.{Script}
 use Rattle.hir.specs.Seal.{First, FirstCause, Free, Part, causes, parts, site_of}
-use Rattle.std.specs.List.{AllByRecursion as All}
+use Rattle.std.specs.List.{AllByRecursion}
 use Rattle.table.specs.declared.refusal.Cause.{Cause}
 use Rattle.table.specs.declared.refusal.Cause.TheVariants.{TableFull, NotUtf8, TextDoesNotFit, NamesNothing, KindNotTaken, NoTerminal, AssignedTwice, PhiOperands, EdgeBack, UseBeforeDefinition}
 use Rattle.table.specs.declared.refusal.Layer.{Layer}
@@ -56,7 +56,7 @@ cause_one room s (c ∷ cs) r q (inl f) (inr g) = absurd (free_first room s c []
 cause_one room s (c ∷ cs) r q (inr f) (inl g) = absurd (free_first room s c [] (parts s) q f.0 g)
 cause_one room s (c ∷ cs) r q (inr f) (inr g) = cause_one room s cs r q f.1 g.1
 
-pub free_cause : (room : ℕ) (s : Script) (cs : List Cause) (r : Refusal) → All (λ c. Free room s c [] (parts s)) cs → FirstCause room s cs r → ⊥
+pub free_cause : (room : ℕ) (s : Script) (cs : List Cause) (r : Refusal) → AllByRecursion (λ c. Free room s c [] (parts s)) cs → FirstCause room s cs r → ⊥
 free_cause room s [] r a f = f
 free_cause room s (c ∷ cs) r a (inl f) = free_first room s c [] (parts s) r a.0 f
 free_cause room s (c ∷ cs) r a (inr f) = free_cause room s cs r a.1 f.1

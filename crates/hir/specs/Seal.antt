@@ -9,7 +9,7 @@ use Rattle.hir.specs.Graph.{Graph, Path, Walk, walked}
 use Rattle.hir.specs.Lists.{Mem, all, any, distinct, flat_map, has, keep, numbered, total}
 use Rattle.hir.specs.Places.{blocks_named, numbers_held, reads, successors, terminal_reads, terminal_writes, texts_named, writes}
 use Rattle.hir.specs.Script.{Block, Instruction, Phi, Script, Terminal}
-use Rattle.std.specs.List.{AllByRecursion as All}
+use Rattle.std.specs.List.{AllByRecursion}
 use Rattle.table.specs.declared.refusal.Cause.{Cause}
 use Rattle.table.specs.declared.refusal.Cause.TheVariants.{TableFull, NotUtf8, TextDoesNotFit, NamesNothing, KindNotTaken, NoTerminal, AssignedTwice, PhiOperands, EdgeBack, UseBeforeDefinition}
 use Rattle.table.specs.declared.refusal.Layer.TheVariants as layer
@@ -212,7 +212,7 @@ abbrev pub SealRefuses : ℕ → Script → Refusal → Type 0
 SealRefuses room s r = FirstCause room s causes r
 
 abbrev pub SealAccepts : ℕ → Script → Type 0
-SealAccepts room s = All (λ c. Free room s c [] (parts s)) causes
+SealAccepts room s = AllByRecursion (λ c. Free room s c [] (parts s)) causes
 
 -- ---- what adding lets in
 
@@ -227,7 +227,7 @@ identifiers_of (further b) = []
 -- Texts are UTF-8, and every identifier and text that is named is there, where there are so many identifiers. Every Number is one that a
 -- 64-bit float holds, in the one form in which it is written there (`fits`), so that equal Numbers are one but for the zeros.
 pub record Drafted (identifiers : ℕ) (s : Script) : Type 0 where
-  pub valid : All IsUtf8 s.texts
+  pub valid : AllByRecursion IsUtf8 s.texts
   pub identified : all (λ x. nat_lt x identifiers) (flat_map identifiers_of (parts s)) ≡ true
   pub named : all (λ t. nat_lt t (length s.texts)) (flat_map (λ B. flat_map texts_named B.code) s.blocks) ≡ true
   pub floats : all (fits binary64) (flat_map (λ B. flat_map numbers_held B.code) s.blocks) ≡ true

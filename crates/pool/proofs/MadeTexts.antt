@@ -10,17 +10,17 @@ use Rattle.pool.specs.Pieces.{piece_bytes}
 use Rattle.pool.specs.Texts.{Holds, bytes_room, joined, rows_room}
 use Rattle.std.proofs.lemmas.Str.{IsUtf8-append, IsUtf8-nil}
 use Rattle.std.proofs.lemmas.Bool.Decides.{nat_tests}
-use Rattle.std.specs.List.{AllByRecursion as All, slice_get}
+use Rattle.std.specs.List.{AllByRecursion, slice_get}
 use Rattle.table.specs.declared.id.Id.{Id}
 use Rattle.table.specs.declared.id.Texts.{Texts}
 use Rattle.table.specs.declared.refusal.Cause.{Cause}
 
-utf8_nth : (ts : List (List ℕ)) → All IsUtf8 ts → (k : ℕ) → IsUtf8 (unwrap_or (slice_get ts k) [])
+utf8_nth : (ts : List (List ℕ)) → AllByRecursion IsUtf8 ts → (k : ℕ) → IsUtf8 (unwrap_or (slice_get ts k) [])
 utf8_nth [] a k = IsUtf8-nil
 utf8_nth (t ∷ ts) a zero = a.0
 utf8_nth (t ∷ ts) a (suc k) = utf8_nth ts a.1 k
 
-utf8_joined : (ts : List (List ℕ)) → All IsUtf8 ts → (ps : List (Option Piece)) → All Valid ps → IsUtf8 (joined_in ts ps)
+utf8_joined : (ts : List (List ℕ)) → AllByRecursion IsUtf8 ts → (ps : List (Option Piece)) → AllByRecursion Valid ps → IsUtf8 (joined_in ts ps)
 utf8_joined ts a [] v = IsUtf8-nil
 utf8_joined ts a (None ∷ ps) v = utf8_joined ts a ps v.1
 utf8_joined ts a (Some (Text id) ∷ ps) v = IsUtf8-append (unwrap_or (slice_get ts id.number) []) (joined_in ts ps) (utf8_nth ts a id.number) (utf8_joined ts a ps v.1)
@@ -48,7 +48,7 @@ module _ (m : Mark) (rows : List TextRow) (pool : List ℕ) (ts : List (List ℕ
       ∙ ap (λ (b : ℕ). leb (b + length (joined_in ts ps)) (bytes_room pool) && ltb m.rows (rows_room rows)) (sym (bytes_used m rows pool ts h))
       ∙ ap (λ (n : ℕ). leb (length (joined ts) + length (joined_in ts ps)) (bytes_room pool) && ltb n (rows_room rows)) (sym (rows_used m rows pool ts h))
 
-  pub made_of : (ps : List (Option Piece)) → All Valid ps → (r : Result (Option (Id Texts)) Cause) (m' : Mark) (rows' : List TextRow) (pool' : List ℕ)
+  pub made_of : (ps : List (Option Piece)) → AllByRecursion Valid ps → (r : Result (Option (Id Texts)) Cause) (m' : Mark) (rows' : List TextRow) (pool' : List ℕ)
       → told r ≡ answer (all_here m rows pool ps) (room m rows pool ps) m.rows → Left (all_here m rows pool ps && room m rows pool ps) m rows pool (whole m rows pool ps) m' rows' pool'
       → MadeOf ts rows pool ps r m' rows' pool'
   made_of ps v r m' rows' pool' told_is left =

@@ -2,7 +2,7 @@
 use Rattle.std.specs.Prelude.{◌≡◌, ℕ, ◌+◌, ◌≤◌, min, List, [], ◌∷◌, ◌++◌, length, take, drop, IsUtf8}
 use Rattle.pool.specs.declared.mark.Mark.{Mark}
 use Rattle.pool.specs.declared.row.TextRow.{TextRow}
-use Rattle.std.specs.List.{AllByRecursion as All}
+use Rattle.std.specs.List.{AllByRecursion}
 use Rattle.table.specs.Tables.{room}
 
 -- how many bytes, and how many texts, memory of these lengths has room for
@@ -31,4 +31,4 @@ pub record Holds (m : Mark) (rows : List TextRow) (pool : List ℕ) (ts : List (
   pub rows_are : take m.rows rows ≡ rows_from 0 ts
   pub bytes_fit : m.bytes ≤ bytes_room pool
   pub rows_fit : m.rows ≤ rows_room rows
-  pub valid : All IsUtf8 ts
+  pub valid : AllByRecursion IsUtf8 ts

@@ -15,7 +15,7 @@ use Rattle.runs.specs.Rounds.{Evaluation, HostMeaning, Room, applied, evaluation
 use Rattle.runs.specs.Rounds.{left, found, folded}
 use Rattle.runs.specs.Tidies.{Elimination, block_tidied, eliminated, pass, passes, pruned, pruned_all, tidy}
 use Rattle.std.specs.Option.{option_map}
-use Rattle.std.specs.List.{AllByRecursion as All}
+use Rattle.std.specs.List.{AllByRecursion}
 
 pub record Counted (B : Body) : Type 0 where
   pub all : count_ifs B.blocks + B.turned_ifs ≡ B.sealed_ifs
@@ -108,7 +108,7 @@ tidy_counted B c =
 
 -- ---- all calls
 
-every : (bs : List ℕ) → All (λ b. Unit {0}) bs
+every : (bs : List ℕ) → AllByRecursion (λ b. Unit {0}) bs
 every [] = tt
 every (b ∷ bs) = (tt, every bs)
 

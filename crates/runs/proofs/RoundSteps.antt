@@ -11,7 +11,7 @@ use Rattle.hir.specs.Script.{Block, Instruction, Terminal, text}
 use Rattle.runs.specs.Rounds.{Evaluation, HostMeaning, Progress, Room, all_but_last, applied, block_folded, blocks_folded, both_zeros_in, code_evaluated, contents_folded, evaluated, evaluated_code, evaluation, fits, folded_to, going_on, has_both_zeros, meets_both_zeros, phis_recorded, resumed, round, settled_as, standing, turned, with_code, with_text}
 use Rattle.runs.specs.Rounds.{left, found, folded}
 use Rattle.std.proofs.lemmas.Bool.{or_parts}
-use Rattle.std.specs.List.{AllByRecursion as All}
+use Rattle.std.specs.List.{AllByRecursion}
 
 -- ---- reading a block of which one was changed
 
@@ -102,11 +102,11 @@ module _ (host : HostMeaning) (room : Room) (P : Body → Type 0) (Q : ℕ → T
       by None = turn b contents.body q done
       by (Some m) = done
 
-  blocks_steps : (bs : List ℕ) → All Q bs → (p : Progress) → both_zeros_in host room bs p ≡ false → P p.body → P (blocks_folded host room bs p).body
+  blocks_steps : (bs : List ℕ) → AllByRecursion Q bs → (p : Progress) → both_zeros_in host room bs p ≡ false → P p.body → P (blocks_folded host room bs p).body
   blocks_steps [] q p z h = h
   blocks_steps (b ∷ bs) q p z h =
       blocks_steps bs q.1 (block_folded host room b p) (or_parts _ _ z).1
       (block_steps b q.0 p.body p.stop (ap (λ (x : Bool). x || false) (or_parts _ _ z).0) h)
 
-  pub round_keeps : (B : Body) → All Q (standing B) → meets_both_zeros host room B ≡ false → P B → P (round host room B).body
+  pub round_keeps : (B : Body) → AllByRecursion Q (standing B) → meets_both_zeros host room B ≡ false → P B → P (round host room B).body
   round_keeps B q z h = blocks_steps (standing B) q (going_on B) z h
