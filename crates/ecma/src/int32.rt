@@ -4,11 +4,11 @@ ghost use Rattle.std.specs.Float.{binary64};
 
 use crate::float_value::FloatValue;
 
-const EXPONENT: u64 = 0x7ff;
+pub(crate) const EXPONENT: u64 = 0x7ff;
 
-const FRACTION: u64 = 0x000f_ffff_ffff_ffff;
+pub(crate) const FRACTION: u64 = 0x000f_ffff_ffff_ffff;
 
-const HIDDEN: u64 = 0x0010_0000_0000_0000;
+pub(crate) const HIDDEN: u64 = 0x0010_0000_0000_0000;
 
 const LOW_WORD: u64 = 0xffff_ffff;
 

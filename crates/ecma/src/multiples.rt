@@ -6,13 +6,8 @@ ghost use Rattle.std.specs.Float.{binary64, float_is_finite};
 ghost use Rattle.std.specs.Prelude.{◌≡◌, ◌+◌, ◌-◌, ◌*◌, ◌/◌, ◌%◌, ◌^◌, ◌<◌, ◌≤◌, ◌==◌, true, false, from_bits, nat_lt, nat_le, if◌then◌else◌};
 
 use crate::float_value::FloatValue;
+use crate::int32::{EXPONENT, FRACTION, HIDDEN};
 use crate::number::is_zero;
-
-const EXPONENT: u64 = 0x7ff;
-
-const FRACTION: u64 = 0x000f_ffff_ffff_ffff;
-
-const HIDDEN: u64 = 0x0010_0000_0000_0000;
 
 const SIGN: u64 = 0x8000_0000_0000_0000;
 
