@@ -1,4 +1,4 @@
--- is_loosely_equal with the Number or the Boolean on the right is the same comparison from the left.
+-- IsLooselyEqual with the Number or the Boolean on the right is the same comparison from the left.
 use lib.Ieee.{Float, eq}
 use Rattle.std.proofs.Common.{◌≡◌, ℕ, Bool, true, false, List, Some, None, Option, sym, refl, ap, ◌∙◌}
 use Rattle.std.specs.Option.{option_map}

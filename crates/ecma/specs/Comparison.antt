@@ -1,4 +1,4 @@
--- Truth and equality of values: to_boolean, same_value, is_strictly_equal and is_loosely_equal of ECMA-262.
+-- Truth and equality of values: ToBoolean, SameValue, IsStrictlyEqual and IsLooselyEqual of ECMA-262.
 use Rattle.std.specs.Float.{fin}
 use Rattle.std.specs.Prelude.{◌≡◌, ℕ, Bool, true, false, cond, not, ◌||◌, List, [], ◌∷◌, pos, is_some, Some, None, Option, is_nan, Float}
 use Rattle.std.specs.Bool.{beq}
@@ -44,11 +44,11 @@ is_strictly_equal (boolean a) y = if_boolean (beq a) false y
 is_strictly_equal (number a) y = if_number (number_equal a) false y
 is_strictly_equal (string a) y = if_string (bytes_eq a) false y
 
--- to_number of a Boolean: 1 or +0
+-- ToNumber of a Boolean: 1 or +0
 abbrev pub to_number : Bool → Float
 to_number b = cond b (fin false 1 (pos 0)) (fin false 0 (pos 0))
 
--- is_loosely_equal of a Number and a value. h is StringToNumber where it is known: there is no answer where it is needed and
+-- IsLooselyEqual of a Number and a value. h is StringToNumber where it is known: there is no answer where it is needed and
 -- silent, be the Number NaN or not.
 abbrev pub number_equals : (List ℕ → Option Float) → Float → Primitive → Option Bool
 number_equals h x null = Some false

@@ -4,7 +4,7 @@ use Rattle.std.specs.Float.{nan, inf, fin}
 use Rattle.std.specs.Float.Ieee.{up, down}
 use Rattle.std.proofs.Math.IntN.{sub_ℕ}
 
--- truncate(ℝ(x)): the fraction dropped, toward zero. Where x is not finite, 0, as to_int32 and to_uint32 have it.
+-- truncate(ℝ(x)): the fraction dropped, toward zero. Where x is not finite, 0, as ToInt32 and ToUint32 have it.
 unfoldable pub truncate : Float → ℤ
 truncate nan = pos 0
 truncate (inf s) = pos 0

@@ -18,7 +18,7 @@ number_text nan = Some (codes "NaN")
 number_text (inf s) = Some (cond s (codes "-Infinity") (codes "Infinity"))
 number_text (fin s m e) = cond (m * up e % down e == 0 && nat_le (m * up e / down e) (2 ^ 53 - 1)) (Some (whole_text s (m * up e / down e))) None
 
--- ---- the number of a text: of the empty one, and of an optional sign with 1 to 15 digits or with infinity
+-- ---- the number of a text: of the empty one, and of an optional sign with 1 to 15 digits or with Infinity
 
 abbrev pub all : (ℕ → Bool) → List ℕ → Bool
 all p [] = true

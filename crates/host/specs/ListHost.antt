@@ -17,7 +17,7 @@ first_of p (x ∷ xs) = cond (p x) (Some x) (first_of p xs)
 abbrev pub is_utf8 : List ℕ → Bool
 is_utf8 bs = scalars (chars bs) && bytes_eq (encodes (chars bs)) bs
 
--- Numbers match by same_value. An entry whose text has more than 32 bytes, or is not UTF-8, is passed over.
+-- Numbers match by SameValue. An entry whose text has more than 32 bytes, or is not UTF-8, is passed over.
 abbrev pub listed_text : List TextEntry → Float → Option (List ℕ)
 listed_text es x = option_map (λ e. e.text.now) (first_of (λ e. number_same_value x e.number && (nat_le (length e.text.now) 32 && is_utf8 e.text.now)) es)
 
