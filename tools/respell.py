@@ -1,5 +1,5 @@
 #!/usr/bin/env python3
-"""Brings this repository's own definitions and lemmas to today's spelling, after /opt/rattle/port/port.py.
+"""Brings this repository's own definitions and lemmas to today's spelling, after the kit's port.py.
 
 usage: python3 tools/respell.py      at the top of the repository, once
 
