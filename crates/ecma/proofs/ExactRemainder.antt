@@ -20,7 +20,7 @@ use Rattle.ecma.specs.Number.{is_zero, number_remainder}
 
 -- ---- the magnitude by the fields: the exponent's field x and the digits t
 
-abbrev digits : ℕ → ℕ → ℕ
+abbrev pub digits : ℕ → ℕ → ℕ
 digits x t = cond (eqb x 0) t (2 ^ 52 + t)
 
 fields_value : (s : Bool) (x t : ℕ) → (x ≡ 2047 → ⊥) → HasValue (of_fields binary64 s x t) s (digits x t * 2 ^ (x - 1)) (2 ^ 1074)
@@ -48,7 +48,7 @@ last_field s x t h e = go (eqb t 0) (subst (λ (y : ℕ). float_is_finite (of_fi
     go false k = let z : ◌≡◌ {A = Bool} false true = k in clash (cc)
 
 pub stored_value :
-    (v : Float) (b q k : ℕ) → of_bits binary64 b ≡ v → float_is_finite v ≡ true → q ≡ cond (eqb (field b) 0) (b % 2 ^ 52) (2 ^ 52 + b % 2 ^ 52) → k ≡ field b - 1
+    (v : Float) (b q k : ℕ) → of_bits binary64 b ≡ v → float_is_finite v ≡ true → q ≡ digits (field b) (b % 2 ^ 52) → k ≡ field b - 1
     → HasValue v (leb (2 ^ 63) b) (q * 2 ^ k) (2 ^ 1074)
 stored_value v b q k e f hq hk =
     let s = leb (2 ^ 63) b in

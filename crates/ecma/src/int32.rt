@@ -47,7 +47,7 @@ fn magnitude(bits: u64) -> u32
 }
 
 // The top bit is the sign.
-fn is_negative(bits: u64) -> bool
+pub(crate) fn is_negative(bits: u64) -> bool
     ensures { result ≡ nat_le (2 ^ 63) bits }
 {
     bits >> 63 != 0

@@ -6,7 +6,7 @@ ghost use Rattle.std.specs.Float.{binary64, float_is_finite};
 ghost use Rattle.std.specs.Prelude.{◌≡◌, ◌+◌, ◌-◌, ◌*◌, ◌/◌, ◌%◌, ◌^◌, ◌<◌, ◌≤◌, ◌==◌, true, false, from_bits, nat_lt, nat_le, if◌then◌else◌};
 
 use crate::float_value::FloatValue;
-use crate::int32::{EXPONENT, FRACTION, HIDDEN};
+use crate::int32::{EXPONENT, FRACTION, HIDDEN, is_negative};
 use crate::number::is_zero;
 
 const SIGN: u64 = 0x8000_0000_0000_0000;
@@ -109,7 +109,7 @@ fn finite_remainder(n: f64, d: f64) -> f64
     let bits = FloatValue::new(n).bits();
     let divisor = Magnitude::of(FloatValue::new(d).bits());
     let left = left_over(Magnitude::of(bits), divisor);
-    left.digits as f64 * power(left.shift, bits >= SIGN)
+    left.digits as f64 * power(left.shift, is_negative(bits))
 }
 
 pub(crate) fn remainder_of(n: f64, d: f64) -> f64
