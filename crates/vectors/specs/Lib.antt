@@ -1,5 +1,4 @@
 pub mod Hex
-pub mod Text
 pub mod Line
 pub mod Value
 pub mod Operations

@@ -1,5 +1,4 @@
 use Rattle.ecma.specs.Value.{Primitive, null, undefined, boolean, number, string}
-use Rattle.vectors.specs.Text.{bytes_of}
 use Rattle.vectors.specs.declared.value.Value.{Value}
 use Rattle.vectors.specs.declared.value.Value.TheVariants.{Null, Undefined, Boolean, Number, String}
 
@@ -9,4 +8,4 @@ meaning_of Null = null
 meaning_of Undefined = undefined
 meaning_of (Boolean b) = boolean b
 meaning_of (Number x) = number x
-meaning_of (String t) = string (bytes_of t)
+meaning_of (String t) = string t.items

@@ -15,9 +15,11 @@ use ecma::{
 };
 
 // Why a line is not right.
-#[derive(Clone, Copy, PartialEq, Eq, Debug)]
+#[derive(Clone, Copy, PartialEq, Eq, Debug, thiserror::Error)]
 pub enum Flaw {
+    #[error("malformed")]
     Malformed,
+    #[error("wrong")]
     Wrong,
 }
 

@@ -17,16 +17,16 @@ ghost use Rattle.std.specs.Float.{binary64};
 use crate::hex;
 use crate::operation::Operation;
 use crate::scan::length_before;
-use crate::text::{Full, Text};
-use crate::value::Value;
+use crate::value::{Text, Value};
 use crate::vector::{Question, Vector};
+use arrayvec::CapacityError;
 use ecma::{BinaryOperator, FloatValue, converted_text};
 
 #[derive(Clone, Copy)]
 pub struct Malformed;
 
-impl From<Full> for Malformed {
-    fn from(_full: Full) -> Malformed {
+impl From<CapacityError<u8>> for Malformed {
+    fn from(_full: CapacityError<u8>) -> Malformed {
         Malformed
     }
 }
@@ -138,8 +138,8 @@ impl<'a> Line<'a> {
         while let Some(byte) = self.byte() {
             match byte {
                 b'"' => return Ok(text),
-                b'\\' => text.push(self.escaped()?)?,
-                b' '..=b'~' => text.push(byte)?,
+                b'\\' => text.try_push(self.escaped()?)?,
+                b' '..=b'~' => text.try_push(byte)?,
                 _ => return Err(Malformed),
             }
         }

@@ -8,7 +8,6 @@ mod line;
 mod operation;
 mod scan;
 mod tally;
-mod text;
 mod value;
 mod vector;
 

@@ -6,10 +6,8 @@ pub fn length_before(bytes: &[u8], stop: u8) -> usize
     ensures before { (k : ℕ) → k < result → slice_index bytes.now k ≢ stop }
     ensures found { result < length bytes.now → slice_index bytes.now result ≡ stop }
 {
-    for (i, byte) in bytes.iter().enumerate() {
-        if *byte == stop {
-            return i;
-        }
-    }
-    bytes.len()
+    bytes
+        .iter()
+        .position(|byte| *byte == stop)
+        .unwrap_or(bytes.len())
 }

@@ -2,7 +2,6 @@ ghost use Rattle.std.specs.Prelude.{◌≡◌, ◌+◌, ◌^◌, ◌<◌, ◌≤
 ghost use Rattle.vectors.specs.Faults.{faults_of};
 
 use crate::judge::{Flaw, judge};
-use crate::scan::length_before;
 use std::alloc::{AllocError, Global};
 use std::fmt;
 
@@ -29,11 +28,8 @@ impl Tally {
             lines: 0,
             faults: Vec::new(heap),
         };
-        let mut rest = input;
-        while !rest.is_empty() {
-            let (line, after) = split_line(rest);
-            tally.count(judge(line))?;
-            rest = after;
+        for line in input.split_inclusive(|byte| *byte == b'\n') {
+            tally.count(judge(line.strip_suffix(b"\n").unwrap_or(line)))?;
         }
         Ok(tally)
     }
@@ -64,24 +60,10 @@ impl Tally {
     }
 }
 
-// The first line, without its line feed, and what stands after it.
-fn split_line(bytes: &[u8]) -> (&[u8], &[u8])
-    ensures { 0 < length bytes.now → length result.1.now < length bytes.now }
-{
-    let (line, rest) = bytes.split_at(length_before(bytes, b'\n'));
-    match rest {
-        [_, after @ ..] => (line, after),
-        [] => (line, rest),
-    }
-}
-
 impl fmt::Display for Fault {
     fn fmt<W: fmt::Write>(&self, f: &mut fmt::Formatter<W>) -> fmt::Result {
         let line = self.line;
-        let flaw = match self.flaw {
-            Flaw::Malformed => "malformed",
-            Flaw::Wrong => "wrong",
-        };
+        let flaw = self.flaw;
         write!(f, "line {line}: {flaw}")
     }
 }

@@ -2,11 +2,14 @@ ghost use Rattle.ecma.specs.Value.{value_of};
 ghost use Rattle.vectors.specs.Value.{meaning_of};
 ghost use Rattle.std.specs.Prelude.{◌≡◌};
 
-use crate::text::Text;
+use arrayvec::ArrayVec;
 use ecma::PrimitiveValue;
 
+// The bytes of a text, which need not be UTF-8.
+pub type Text = ArrayVec<u8, 255>;
+
 // A primitive value that keeps its text.
-#[derive(Clone, Copy)]
+#[derive(Drop)]
 pub enum Value {
     Null,
     Undefined,
@@ -24,7 +27,7 @@ impl Value {
             Value::Undefined => PrimitiveValue::Undefined,
             Value::Boolean(b) => PrimitiveValue::Boolean(*b),
             Value::Number(x) => PrimitiveValue::Number(*x),
-            Value::String(text) => PrimitiveValue::String(text.as_bytes()),
+            Value::String(text) => PrimitiveValue::String(text.as_slice()),
         }
     }
 }

@@ -3,7 +3,7 @@ use ecma::{BinaryOperator, UnaryOperator, UpdateOperator};
 
 // An operation at its operands. `text_number` is the number of the text that == or != compares as
 // a number, where it is given.
-#[derive(Clone, Copy)]
+#[derive(Drop)]
 pub enum Question {
     Binary {
         operator: BinaryOperator,
@@ -26,7 +26,7 @@ pub enum Question {
 }
 
 // A question and its answer: nothing where the operation must not fold.
-#[derive(Clone, Copy)]
+#[derive(Drop)]
 pub struct Vector {
     pub question: Question,
     pub answer: Option<Value>,
