@@ -61,7 +61,7 @@ impl<'a> Line<'a> {
 
     fn question(&mut self) -> Result<Question, Malformed> {
         let name = self.word()?;
-        match Operation::named(name).ok_or(Malformed)? {
+        match name.parse()? {
             Operation::Binary(operator) => self.binary(operator),
             Operation::Unary(operator) => {
                 let operand = self.value()?;
@@ -105,17 +105,15 @@ impl<'a> Line<'a> {
             return Ok(None);
         }
         let number = self.number()?;
-        match converted_text(left.view(), right.view()) {
-            Some(_) => Ok(Some(number)),
-            None => Err(Malformed),
-        }
+        converted_text(left.view(), right.view()).ok_or(Malformed)?;
+        Ok(Some(number))
     }
 
     fn number(&mut self) -> Result<f64, Malformed> {
-        match self.value()? {
-            Value::Number(x) => Ok(x),
-            _ => Err(Malformed),
-        }
+        let Value::Number(x) = self.value()? else {
+            return Err(Malformed);
+        };
+        Ok(x)
     }
 
     fn value(&mut self) -> Result<Value, Malformed> {
@@ -160,9 +158,7 @@ impl<'a> Line<'a> {
         ensures first { MatchOption result (length (rest_of self.old) ≡ 0) (λ b. rest_of self.old ≡ b ∷ rest_of self.new) }
         ensures len { OnSome result (length (rest_of self.new) + 1 ≡ length (rest_of self.old)) }
     {
-        let Some((first, rest)) = self.rest.split_first() else {
-            return None;
-        };
+        let (first, rest) = self.rest.split_first()?;
         self.rest = rest;
         Some(*first)
     }
@@ -175,10 +171,7 @@ impl<'a> Line<'a> {
     {
         let (word, rest) = self.rest.split_at(length_before(self.rest, b' '));
         self.rest = rest;
-        match std::str::from_utf8(word) {
-            Ok(text) => Ok(text),
-            Err(_) => Err(Malformed),
-        }
+        std::str::from_utf8(word).map_err(|_| Malformed)
     }
 
     fn expect(&mut self, bytes: &[u8]) -> Result<(), Malformed>

@@ -1,7 +1,9 @@
-ghost use Rattle.std.specs.Prelude.{◌≡◌, IfSome};
+ghost use Rattle.std.specs.Prelude.{◌≡◌, IfOk, IfSome};
 ghost use Rattle.vectors.specs.Operations.{binary_name, operation_name, unary_name};
 
+use crate::line::Malformed;
 use ecma::{BinaryOperator, UnaryOperator, UpdateOperator};
+use std::str::FromStr;
 
 // What a line asks for.
 #[derive(Clone, Copy)]
@@ -15,24 +17,26 @@ pub enum Operation {
     SameValue,
 }
 
-impl Operation {
-    pub fn named(name: &str) -> Option<Operation>
-        ensures { IfSome result (λ o. operation_name o ≡ name.now) }
-    {
+impl FromStr for Operation {
+    type Err = Malformed;
+
+    ghost from_str_gives = { λ name r. IfOk r (λ o. operation_name o ≡ name) };
+
+    fn from_str(name: &str) -> Result<Operation, Malformed> {
         if let Some(operator) = binary(name) {
-            return Some(Operation::Binary(operator));
+            return Ok(Operation::Binary(operator));
         }
         if let Some(operator) = unary(name) {
-            return Some(Operation::Unary(operator));
+            return Ok(Operation::Unary(operator));
         }
         match name {
-            "inc" => Some(Operation::Update(UpdateOperator::Increment)),
-            "dec" => Some(Operation::Update(UpdateOperator::Decrement)),
-            "ToInt32" => Some(Operation::ToInt32),
-            "ToUint32" => Some(Operation::ToUint32),
-            "ToBoolean" => Some(Operation::ToBoolean),
-            "SameValue" => Some(Operation::SameValue),
-            _ => None,
+            "inc" => Ok(Operation::Update(UpdateOperator::Increment)),
+            "dec" => Ok(Operation::Update(UpdateOperator::Decrement)),
+            "ToInt32" => Ok(Operation::ToInt32),
+            "ToUint32" => Ok(Operation::ToUint32),
+            "ToBoolean" => Ok(Operation::ToBoolean),
+            "SameValue" => Ok(Operation::SameValue),
+            _ => Err(Malformed),
         }
     }
 }
