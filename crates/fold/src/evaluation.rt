@@ -10,11 +10,7 @@ use ecma::{Folded, PrimitiveValue, evaluate_binary_op, evaluate_unary_op};
 fn operand<'a>(known: &[Option<PrimitiveValue<'a>>], number: usize) -> Option<PrimitiveValue<'a>>
     ensures { result ≡ slice_index_or known.now number None }
 {
-    if number < known.len() {
-        known[number]
-    } else {
-        None
-    }
+    known.get(number).copied().flatten()
 }
 
 // What the operation gives, where `known` has the values of the instructions before it.

@@ -15,13 +15,9 @@ use text::Row;
 
 fn main(rt: HostRuntime) -> io::Result<()> {
     let mut known: [Option<PrimitiveValue<'static>>; LENGTH] = [None; LENGTH];
-    let mut folded = 0;
     for (number, (name, operation)) in SCRIPT.iter().enumerate() {
         let value = evaluate(*operation, &known);
         known[number] = value;
-        if value.is_some() {
-            folded += 1;
-        }
         let row = Row {
             number,
             name,
@@ -30,6 +26,7 @@ fn main(rt: HostRuntime) -> io::Result<()> {
         };
         println!(rt; "{row}")?;
     }
+    let folded = known.iter().filter(|value| value.is_some()).count();
     let left = LENGTH - folded;
     println!(rt; "instructions {LENGTH} folded {folded} left {left}")
 }

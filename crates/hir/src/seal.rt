@@ -2,20 +2,14 @@ ghost use Rattle.hir.specs.Accepted.{Acceptance};
 ghost use Rattle.hir.specs.Examples.{OneRefusal, SealExamples};
 
 // Their contracts are theorems about the definitions; they compute nothing.
-pub fn one_refusal() -> u8
+pub fn one_refusal()
     ensures { OneRefusal }
-{
-    0
-}
+{}
 
-pub fn seal_examples() -> u8
+pub fn seal_examples()
     ensures { SealExamples }
-{
-    0
-}
+{}
 
-pub fn acceptance() -> u8
+pub fn acceptance()
     ensures { Acceptance }
-{
-    0
-}
+{}

@@ -2,14 +2,12 @@
 ghost use Rattle.runs.specs.Cases.{EightCases};
 ghost use Rattle.runs.specs.Examples.{RunExamples};
 
-pub fn eight_cases() -> u8
+pub fn eight_cases()
     ensures { EightCases }
 {
-    0
 }
 
-pub fn run_examples() -> u8
+pub fn run_examples()
     ensures { RunExamples }
 {
-    0
 }

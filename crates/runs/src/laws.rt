@@ -2,14 +2,12 @@
 ghost use Rattle.runs.specs.Folds.{FoldsAreMonotone};
 ghost use Rattle.runs.specs.Law.{TurnedWithinSealed};
 
-pub fn folds_are_monotone() -> u8
+pub fn folds_are_monotone()
     ensures { FoldsAreMonotone }
 {
-    0
 }
 
-pub fn turned_within_sealed() -> u8
+pub fn turned_within_sealed()
     ensures { TurnedWithinSealed }
 {
-    0
 }
