@@ -4,7 +4,7 @@ ghost use Rattle.ecma.specs.Value.{value_of};
 ghost use Rattle.std.specs.Option.{option_map};
 ghost use Rattle.std.specs.Prelude.{◌≡◌, Decides};
 
-use crate::number::{is_zero, same_number};
+use crate::number::is_zero;
 use crate::primitive_value::PrimitiveValue;
 
 pub fn to_boolean(x: PrimitiveValue) -> bool
@@ -14,7 +14,7 @@ pub fn to_boolean(x: PrimitiveValue) -> bool
         PrimitiveValue::Null => false,
         PrimitiveValue::Undefined => false,
         PrimitiveValue::Boolean(b) => b,
-        PrimitiveValue::Number(n) => !is_zero(n) && !n.is_nan(),
+        PrimitiveValue::Number(n) => !is_zero(n.value()) && !n.value().is_nan(),
         PrimitiveValue::String(t) => !t.is_empty(),
     }
 }
@@ -24,13 +24,7 @@ pub fn same_value(x: PrimitiveValue, y: PrimitiveValue) -> bool
     ensures value { result ≡ same_value (value_of x.entry) (value_of y.entry) }
     ensures decides { Decides result (value_of x.entry ≡ value_of y.entry) }
 {
-    match x {
-        PrimitiveValue::Number(a) => match y {
-            PrimitiveValue::Number(b) => same_number(a, b),
-            _ => false,
-        },
-        _ => is_strictly_equal(x, y),
-    }
+    x == y
 }
 
 pub fn is_strictly_equal(x: PrimitiveValue, y: PrimitiveValue) -> bool
@@ -40,7 +34,7 @@ pub fn is_strictly_equal(x: PrimitiveValue, y: PrimitiveValue) -> bool
         (PrimitiveValue::Null, PrimitiveValue::Null) => true,
         (PrimitiveValue::Undefined, PrimitiveValue::Undefined) => true,
         (PrimitiveValue::Boolean(a), PrimitiveValue::Boolean(b)) => a == b,
-        (PrimitiveValue::Number(a), PrimitiveValue::Number(b)) => a == b,
+        (PrimitiveValue::Number(a), PrimitiveValue::Number(b)) => a.value() == b.value(),
         (PrimitiveValue::String(a), PrimitiveValue::String(b)) => a == b,
         _ => false,
     }
@@ -49,7 +43,7 @@ pub fn is_strictly_equal(x: PrimitiveValue, y: PrimitiveValue) -> bool
 fn to_number(b: bool) -> f64
     ensures { result ≡ to_number b }
 {
-    if b { 1.0 } else { 0.0 }
+    f64::from(b)
 }
 
 // The number by which a Boolean or a Number is compared with `==`.
@@ -58,7 +52,7 @@ fn numeric(x: PrimitiveValue) -> Option<f64>
 {
     match x {
         PrimitiveValue::Boolean(b) => Some(to_number(b)),
-        PrimitiveValue::Number(n) => Some(n),
+        PrimitiveValue::Number(n) => Some(n.value()),
         PrimitiveValue::Null | PrimitiveValue::Undefined | PrimitiveValue::String(_) => None,
     }
 }
