@@ -21,14 +21,14 @@ pub fn evaluate<'a>(
     ensures { option_map value_of result ≡ evaluation_of known.now operation }
 {
     match operation {
-        Operation::Literal(x) => Some(PrimitiveValue::Number(x)),
+        Operation::Literal(x) => Some(PrimitiveValue::from(x)),
         Operation::Unary(operator, value) => evaluate_unary_op(operator, operand(known, value)?),
         Operation::Binary(operator, left, right) => {
             let lhs = operand(known, left)?;
             let rhs = operand(known, right)?;
             match evaluate_binary_op(operator, lhs, rhs, None)? {
-                Folded::Boolean(b) => Some(PrimitiveValue::Boolean(b)),
-                Folded::Number(x) => Some(PrimitiveValue::Number(x)),
+                Folded::Boolean(b) => Some(PrimitiveValue::from(b)),
+                Folded::Number(x) => Some(PrimitiveValue::from(x)),
                 Folded::Join => None,
             }
         }

@@ -46,7 +46,7 @@ impl fmt::Display for Shown<'_> {
             PrimitiveValue::Null => write!(f, "null"),
             PrimitiveValue::Undefined => write!(f, "undefined"),
             PrimitiveValue::Boolean(b) => write!(f, "{b}"),
-            PrimitiveValue::Number(x) => write_number(x, f),
+            PrimitiveValue::Number(x) => write_number(x.value(), f),
             PrimitiveValue::String(_) => write!(f, "a text"),
         }
     }

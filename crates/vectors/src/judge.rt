@@ -55,12 +55,18 @@ impl Vector {
                 is_same(evaluate_unary_op(*operator, operand.view()), expected)
             }
             Question::Update { operator, operand } => {
-                is_number(evaluate_update_op(*operator, *operand), expected)
+                is_same(
+                    Some(evaluate_update_op(*operator, *operand).into()),
+                    expected,
+                )
             }
-            Question::ToInt32(x) => is_number(to_int32(*x) as f64, expected),
-            Question::ToUint32(x) => is_number(to_uint32(*x) as f64, expected),
-            Question::ToBoolean(x) => is_boolean(to_boolean(x.view()), expected),
-            Question::SameValue(x, y) => is_boolean(same_value(x.view(), y.view()), expected),
+            Question::ToInt32(x) => is_same(Some(f64::from(to_int32(*x)).into()), expected),
+            Question::ToUint32(x) => is_same(Some(f64::from(to_uint32(*x)).into()), expected),
+            Question::ToBoolean(x) => is_same(Some(to_boolean(x.view()).into()), expected),
+            Question::SameValue(x, y) => is_same(
+                Some(same_value(x.view(), y.view()).into()),
+                expected,
+            ),
         }
     }
 }
@@ -68,10 +74,7 @@ impl Vector {
 fn viewed(answer: &Option<Value>) -> Option<PrimitiveValue<'_>>
     ensures { option_map value_of result ≡ option_map meaning_of answer.now }
 {
-    match answer {
-        Some(value) => Some(value.view()),
-        None => None,
-    }
+    answer.as_ref().map(Value::view)
 }
 
 fn folds_to(
@@ -84,8 +87,8 @@ fn folds_to(
     ensures { Decides result (binary_fold (λ _. text_number) operator (value_of left.entry) (value_of right.entry) ≡ option_map value_of expected.entry) }
 {
     match evaluate_binary_op(operator, left, right, text_number) {
-        Some(Folded::Boolean(b)) => is_boolean(b, expected),
-        Some(Folded::Number(x)) => is_number(x, expected),
+        Some(Folded::Boolean(b)) => is_same(Some(b.into()), expected),
+        Some(Folded::Number(x)) => is_same(Some(x.into()), expected),
         Some(Folded::Join) => is_text(bytes_of(left), bytes_of(right), expected),
         None => expected.is_none(),
     }
@@ -120,38 +123,10 @@ fn is_join(front: &[u8], back: &[u8], whole: &[u8]) -> bool
     }
 }
 
-fn is_number(x: f64, expected: Option<PrimitiveValue>) -> bool
-    ensures { Decides result (Some (number x) ≡ option_map value_of expected.entry) }
-{
-    is_same(Some(number_value(x)), expected)
-}
-
-fn is_boolean(b: bool, expected: Option<PrimitiveValue>) -> bool
-    ensures { Decides result (Some (boolean b) ≡ option_map value_of expected.entry) }
-{
-    is_same(Some(boolean_value(b)), expected)
-}
-
-fn number_value(x: f64) -> PrimitiveValue<'static>
-    ensures { value_of result ≡ number x }
-{
-    PrimitiveValue::Number(x)
-}
-
-fn boolean_value(b: bool) -> PrimitiveValue<'static>
-    ensures { value_of result ≡ boolean b }
-{
-    PrimitiveValue::Boolean(b)
-}
-
 fn is_same(found: Option<PrimitiveValue>, expected: Option<PrimitiveValue>) -> bool
     ensures { Decides result (option_map value_of found.entry ≡ option_map value_of expected.entry) }
 {
-    match (found, expected) {
-        (Some(x), Some(y)) => same_value(x, y),
-        (None, None) => true,
-        _ => false,
-    }
+    found == expected
 }
 
 #[cfg(test)]

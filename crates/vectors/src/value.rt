@@ -25,8 +25,8 @@ impl Value {
         match self {
             Value::Null => PrimitiveValue::Null,
             Value::Undefined => PrimitiveValue::Undefined,
-            Value::Boolean(b) => PrimitiveValue::Boolean(*b),
-            Value::Number(x) => PrimitiveValue::Number(*x),
+            Value::Boolean(b) => PrimitiveValue::from(*b),
+            Value::Number(x) => PrimitiveValue::from(*x),
             Value::String(text) => PrimitiveValue::String(text.as_slice()),
         }
     }
