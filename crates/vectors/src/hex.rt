@@ -18,7 +18,7 @@ pub fn byte(high: u8, low: u8) -> Option<u8>
     Some(digit(high)? * 16 + digit(low)?)
 }
 
-// The number of sixteen digits.
+// The number of sixteen digits. Not from_str_radix, which takes lower case and a sign.
 pub fn word(digits: &[u8]) -> Option<u64>
     ensures { result ≡ (if nat_eq (length digits.now) 16 then number digits.now else None) }
 {

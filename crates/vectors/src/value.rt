@@ -8,7 +8,8 @@ use ecma::PrimitiveValue;
 // The bytes of a text, which need not be UTF-8.
 pub type Text = ArrayVec<u8, 255>;
 
-// A primitive value that keeps its text.
+// A primitive value that keeps its text. Not one enum with ecma's and a parameter for the text: the borrow checker does
+// not cover one that holds a FloatValue and, by the parameter, a reference.
 #[derive(Drop)]
 pub enum Value {
     Null,

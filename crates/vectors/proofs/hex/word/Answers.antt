@@ -1,9 +1,9 @@
-use Rattle.std.proofs.Common.{◌≡◌, ℕ, ◌+◌, ◌*◌, ◌^◌, ◌<◌, ◌≤◌, cond, eqb, List, length, get_or, drop, Some, None, Option, sym, ap, ◌∙◌, arith, pow-add}
+-- The digits read so far are a number below 16 to their count, and with those left they make the whole one.
+use Rattle.std.proofs.Common.{◌≡◌, ℕ, ◌+◌, ◌*◌, ◌^◌, ◌<◌, ◌≤◌, List, length, get_or, drop, Some, Option, sym, ap, ◌∙◌, arith, pow-add}
 use native.Mathlib.Nat.{pow-le-pow_right}
-use Rattle.std.proofs.lemmas.List.{at_drop_more, at_drop_all}
-use Rattle.std.proofs.lemmas.Bool.{eq-eqb}
+use Rattle.std.proofs.lemmas.List.{at_drop_more}
 use Rattle.std.proofs.lemmas.Bool.Decides.{nat_tests}
-use Rattle.vectors.specs.Hex.{digit_of, with_digit, number, number_after}
+use Rattle.vectors.specs.Hex.{digit_of, with_digit, number_after}
 use Rattle.vectors.proofs.hex.word.Goals as goal
 
 small : (b d : ℕ) → Some d ≡ digit_of b → d < 16
@@ -24,21 +24,11 @@ next : (n i : ℕ) (ds : List ℕ) (o : Option ℕ) → i < length ds → o ≡ 
 next n i ds o h e =
     at_drop_more (number_after n) ds i 0 h ∙ ap (λ (p : Option ℕ). with_digit p (λ d. number_after (n * 16 + d) (drop (i + 1) ds))) (sym e)
 
--- what is returned of sixteen digits
-whole : (ds : List ℕ) (r : Option ℕ) → length ds ≡ 16 → r ≡ number ds → r ≡ cond (eqb (length ds) 16) (number ds) None
-whole ds r h e =
-    e ∙ sym (ap (λ b. cond b (number ds) None) (eq-eqb (length ds) 16 h))
-
 pub overflow_mul-number : goal.overflow_mul-number
 overflow_mul-number c =
     let h : c.loop-byte.byte-index < 16 = omega arith in
     let k : c.loop-byte.number * 16 + 0 < 16 ^ (c.loop-byte.byte-index + 1) = room _ 0 _ c.loop-byte.invariant.0 (omega arith) in
     omega (arith, sixteen _ _ k h)
-
-pub returns-in_err-digit : goal.returns-in_err-digit
-returns-in_err-digit c =
-    whole _ _ c.if-digits-ne16.false
-    (c.from_residual.ensures ∙ (sym (next _ _ _ None c.loop-byte-test.true c.in_err-digit.ensures) ∙ c.loop-byte.invariant.1))
 
 byte_at : goal.After-from → ℕ
 byte_at c = get_or c.args.digits.now c.loop-byte.byte-index 0
@@ -59,8 +49,3 @@ loop-byte-preserved c = (
   room _ _ _ c.loop-byte.invariant.0 (small (byte_at c) _ (read c)),
   sym (next _ _ _ _ c.loop-byte-test.true (read c)) ∙ c.loop-byte.invariant.1,
 )
-
-pub returns : goal.returns
-returns c =
-    whole _ _ c.if-digits-ne16.false
-    (sym (at_drop_all (number_after c.loop-byte.number) c.args.digits.now c.loop-byte.byte-index (omega arith)) ∙ c.loop-byte.invariant.1)
