@@ -15,6 +15,7 @@ use text::Row;
 
 fn main(rt: HostRuntime) -> io::Result<()> {
     let mut known: [Option<PrimitiveValue<'static>>; LENGTH] = [None; LENGTH];
+    // by number, and no chain: each instruction reads what the ones before it became
     for (number, (name, operation)) in SCRIPT.iter().enumerate() {
         let value = evaluate(*operation, &known);
         known[number] = value;

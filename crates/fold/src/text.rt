@@ -63,6 +63,8 @@ fn write_number<W: fmt::Write>(x: f64, f: &mut fmt::Formatter<W>) -> fmt::Result
     write!(f, "{x}")
 }
 
+// Not a Display of the operator, which could stand in ecma alone: each program spells the operators as it prints or
+// reads them.
 fn prefix(operator: UnaryOperator) -> &'static str {
     match operator {
         UnaryOperator::Minus => "-",

@@ -10,7 +10,7 @@ pub struct OpaquePlaces {
 }
 
 // The kinds that a round names hold their fields. Those with an inner function or a context variable hold
-// nothing, since they are refused. The others are opaque.
+// nothing, since they are refused. The others are opaque, each a case of its own as in the Rust, whose order this is.
 #[derive(Clone, Copy)]
 pub enum InstructionValue {
     LoadLocal {

@@ -9,7 +9,7 @@ pub struct Span {
     pub end: u32,
 }
 
-// Entries of a table, one after another.
+// Entries of a table, one after another: not a slice, since the tables are lent for each call anew.
 #[derive(Clone, Copy)]
 pub struct ListRange {
     pub first: u32,
@@ -22,6 +22,8 @@ pub struct LValue {
     pub kind: InstructionKind,
 }
 
+// Its text is a number, where ecma's has bytes. One enum with the text as its parameter was tried: the borrow checker
+// does not cover one that holds a FloatValue and, by the parameter, a reference.
 #[derive(Clone, Copy)]
 pub enum PrimitiveValue {
     Null,
