@@ -1,13 +1,16 @@
 -- Pieces that are pushed one after another: those so far stand behind the texts, which stay as they are.
-use Rattle.std.proofs.Common.{◌≡◌, ℕ, ◌+◌, ◌<◌, ◌≤◌, Bool, true, false, cond, ◌&&◌, ltb, leb, ◌⊎◌, List, [], ◌∷◌, ◌++◌, length, take, drop, is_some, Some, None, Option, unwrap_or, sym, refl, ap, ◌∙◌, subst, inl, inr, append_assoc, append-nil, le_refl, add-zero, arith, length-append, length-take}
+use Rattle.std.proofs.Common.{◌≡◌, ℕ, ◌+◌, ◌<◌, ◌≤◌, Bool, true, false, cond, ltb, leb, ◌⊎◌, List, [], ◌∷◌, ◌++◌, length, take, drop, is_some, Some, None, Option, unwrap_or, sym, refl, ap, ◌∙◌, subst, inl, inr, append_assoc, append-nil, le_refl, add-zero, arith, length-append, length-take}
 use Rattle.pool.proofs.Held.{below_mark}
+use Rattle.pool.specs.declared.making.Making.{Making}
 use Rattle.pool.specs.declared.piece.Piece.{Piece}
 use Rattle.pool.specs.declared.piece.Piece.TheVariants.{Text, Bytes}
 use Rattle.pool.specs.declared.row.TextRow.{TextRow}
+use Rattle.pool.specs.Makings.{OnlyBytes}
 use Rattle.pool.specs.Pieces.{Gathered, Pushed, below, gathered, piece_bytes, present, text_of}
 use Rattle.pool.specs.Texts.{bytes_room, text_at}
 use Rattle.std.proofs.lemmas.List.Edits.{length-paste, paste_none, paste-paste}
 use Rattle.std.proofs.lemmas.List.{take_at}
+use Rattle.std.proofs.lemmas.List.Folds.{list_all-append}
 use Rattle.std.proofs.lemmas.Bool.Decides.{leb_tells, nat_tests}
 use lib.Seq.{paste}
 use Rattle.table.specs.Tables.{entry}
@@ -17,6 +20,9 @@ pub record So-far (n b : ℕ) (rows : List TextRow) (pool : List ℕ) (ps : List
   pub mark : b' ≡ b + length (gathered n b rows pool ps)
   pub bytes : pool' ≡ paste pool b (gathered n b rows pool ps) (length (gathered n b rows pool ps))
   pub fits : b + length (gathered n b rows pool ps) ≤ bytes_room pool
+
+pub only_bytes-trans : (x y z : Making) → OnlyBytes x y → OnlyBytes y z → OnlyBytes x z
+only_bytes-trans x y z e f = record { lent = f.lent ∙ e.lent; start = f.start ∙ e.start; kept = f.kept ∙ e.kept; rows = f.rows ∙ e.rows }
 
 -- ---- the texts stay, and so do the pieces that are texts
 
@@ -43,6 +49,10 @@ module _ (n b : ℕ) (rows : List TextRow) (pool : List ℕ) where
   same_piece x e (Some (Text id)) = same_row b x pool e (cond (ltb id.number n) (entry 4096 rows id.number) None)
   same_piece x e (Some (Bytes bytes)) = refl
 
+  -- and where as many rows are in use, and the texts end at the same byte
+  still_piece : (x : List ℕ) → take b x ≡ take b pool → (n' b' : ℕ) → n' ≡ n → b' ≡ b → (p : Option Piece) → piece_bytes n' b' rows x p ≡ piece_bytes n b rows pool p
+  still_piece x e n' b' f g p = ap (λ (k : ℕ). piece_bytes k b' rows x p) f ∙ ap (λ (k : ℕ). piece_bytes n k rows x p) g ∙ same_piece x e p
+
   gathered-append : (ps qs : List (Option Piece)) → gathered n b rows pool (ps ++ qs) ≡ gathered n b rows pool ps ++ gathered n b rows pool qs
   gathered-append [] qs = refl
   gathered-append (p ∷ ps) qs =
@@ -50,12 +60,7 @@ module _ (n b : ℕ) (rows : List TextRow) (pool : List ℕ) where
       ∙ sym (append_assoc (unwrap_or (piece_bytes n b rows pool p) []) (gathered n b rows pool ps) (gathered n b rows pool qs))
 
   present_at : (ps qs : List (Option Piece)) (p : Option Piece) → present n b rows pool (ps ++ p ∷ qs) ≡ true → is_some (piece_bytes n b rows pool p) ≡ true
-  present_at [] qs p h = grind (arith, nat_tests)
-  present_at (q ∷ ps) qs p h = present_at ps qs p (second (is_some (piece_bytes n b rows pool q)) (present n b rows pool (ps ++ p ∷ qs)) h)
-    where
-      second : (x y : Bool) → (x && y) ≡ true → y ≡ true
-      second true y e = e
-      second false y e = let z : ◌≡◌ {A = ℕ} 0 1 = cc in absurd (omega arith)
+  present_at ps qs p h = let e = list_all-append (λ (q : Option Piece). is_some (piece_bytes n b rows pool q)) ps (p ∷ qs) in grind (arith, nat_tests)
 
   -- ---- the loop
 
@@ -75,9 +80,10 @@ module _ (n b : ℕ) (rows : List TextRow) (pool : List ℕ) where
     pub same_front : take b pool₁ ≡ take b pool
     same_front = ap (take b) s.bytes ∙ front_paste pool (gathered n b rows pool ps) b (length (gathered n b rows pool ps)) inside
 
-    pub one_more : (p : Option Piece) (r : Option (Unit {0})) (b₂ : ℕ) (pool₂ : List ℕ) → Pushed (piece_bytes n b rows pool₁ p) b₁ pool₁ r b₂ pool₂ → is_some r ≡ true
-        → So-far n b rows pool (ps ++ p ∷ []) b₂ pool₂
-    one_more p r b₂ pool₂ h some = go (piece_bytes n b rows pool p) refl (subst (λ (t : Option (List ℕ)). Pushed t b₁ pool₁ r b₂ pool₂) (same_piece pool₁ same_front p) h)
+    pub one_more : (n' b' : ℕ) → n' ≡ n → b' ≡ b → (p : Option Piece) (r : Option (Unit {0})) (b₂ : ℕ) (pool₂ : List ℕ) → Pushed (piece_bytes n' b' rows pool₁ p) b₁ pool₁ r b₂ pool₂
+        → is_some r ≡ true → So-far n b rows pool (ps ++ p ∷ []) b₂ pool₂
+    one_more n' b' e f p r b₂ pool₂ h some =
+        go (piece_bytes n b rows pool p) refl (subst (λ (t : Option (List ℕ)). Pushed t b₁ pool₁ r b₂ pool₂) (still_piece pool₁ same_front n' b' e f p) h)
       where
         go : (t : Option (List ℕ)) → piece_bytes n b rows pool p ≡ t → Pushed t b₁ pool₁ r b₂ pool₂ → So-far n b rows pool (ps ++ p ∷ []) b₂ pool₂
         go None e k = let z : is_some r ≡ false = ap is_some k.0 in let y : ◌≡◌ {A = ℕ} 0 1 = cc in absurd (omega arith)
@@ -99,9 +105,10 @@ module _ (n b : ℕ) (rows : List TextRow) (pool : List ℕ) where
             }
 
     -- a piece that is missing or does not fit ends it
-    pub stopped : (p : Option Piece) (rest all : List (Option Piece)) → all ≡ ps ++ p ∷ rest → (r : Option (Unit {0})) (b₂ : ℕ) (pool₂ : List ℕ)
-        → Pushed (piece_bytes n b rows pool₁ p) b₁ pool₁ r b₂ pool₂ → is_some r ≡ false → Gathered n b rows pool all r b₂ pool₂
-    stopped p rest all e r b₂ pool₂ h none = go (piece_bytes n b rows pool p) refl (subst (λ (t : Option (List ℕ)). Pushed t b₁ pool₁ r b₂ pool₂) (same_piece pool₁ same_front p) h)
+    pub stopped : (n' b' : ℕ) → n' ≡ n → b' ≡ b → (p : Option Piece) (rest all : List (Option Piece)) → all ≡ ps ++ p ∷ rest → (r : Option (Unit {0})) (b₂ : ℕ) (pool₂ : List ℕ)
+        → Pushed (piece_bytes n' b' rows pool₁ p) b₁ pool₁ r b₂ pool₂ → is_some r ≡ false → Gathered n b rows pool all r b₂ pool₂
+    stopped n' b' same_rows same_end p rest all e r b₂ pool₂ h none =
+        go (piece_bytes n b rows pool p) refl (subst (λ (t : Option (List ℕ)). Pushed t b₁ pool₁ r b₂ pool₂) (still_piece pool₁ same_front n' b' same_rows same_end p) h)
       where
         never : {A : Type 0} → is_some r ≡ true → A
         never k = let y : ◌≡◌ {A = ℕ} 0 1 = cc in absurd (omega arith)

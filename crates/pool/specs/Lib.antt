@@ -1,4 +1,5 @@
 pub mod Adding
 pub mod Made
+pub mod Makings
 pub mod Pieces
 pub mod Texts

@@ -8,7 +8,7 @@ use Rattle.pool.specs.Pieces.{gathered, present}
 use Rattle.pool.specs.Texts.{Holds, bytes_room, joined, rows_room}
 use Rattle.std.specs.Option.{option_map, unwrap_or}
 use Rattle.std.proofs.Math.Seq.{paste}
-use Rattle.std.specs.List.{slice_get}
+use Rattle.std.specs.List.{list_all, slice_get}
 use Rattle.table.specs.declared.id.Id.{Id}
 use Rattle.table.specs.declared.id.Texts.{Texts}
 use Rattle.table.specs.declared.refusal.Cause.{Cause}
@@ -50,8 +50,7 @@ piece_in ts (Some (Text id)) = slice_get ts id.number
 piece_in ts (Some (Bytes bytes)) = Some bytes.now
 
 abbrev pub all_in : List (List ℕ) → List (Option Piece) → Bool
-all_in ts [] = true
-all_in ts (p ∷ ps) = is_some (piece_in ts p) && all_in ts ps
+all_in ts ps = list_all (λ p. is_some (piece_in ts p)) ps
 
 abbrev pub joined_in : List (List ℕ) → List (Option Piece) → List ℕ
 joined_in ts [] = []
