@@ -16,6 +16,7 @@ impl Making<'_> {
         ensures { result ≡ row_of self.now.mark.now.rows self.now.start rows.now id.number }
     {
         let row = text_row(self.mark, rows, id)?;
+        // not a filter, which is as long, and whose closure the proof would have to unfold
         if row.start as u64 + row.len as u64 <= self.start as u64 {
             Some(row)
         } else {
