@@ -9,7 +9,8 @@ use Rattle.pool.specs.Makings.{OnlyBytes}
 use Rattle.pool.specs.Pieces.{Gathered, Pushed, below, gathered, piece_bytes, present, text_of}
 use Rattle.pool.specs.Texts.{bytes_room, text_at}
 use Rattle.std.proofs.lemmas.List.Edits.{length-paste, paste_none, paste-paste}
-use Rattle.std.proofs.lemmas.List.{take_at}
+use Rattle.std.proofs.lemmas.Grind.{flat_map-append}
+use Rattle.std.proofs.lemmas.List.{length-take-le, take_at}
 use Rattle.std.proofs.lemmas.List.Folds.{list_all-append}
 use Rattle.std.proofs.lemmas.Bool.Decides.{leb_tells, nat_tests}
 use lib.Seq.{paste}
@@ -26,12 +27,9 @@ only_bytes-trans x y z e f = record { lent = f.lent ∙ e.lent; start = f.start 
 
 -- ---- the texts stay, and so do the pieces that are texts
 
-length_front : (b : ℕ) (pool : List ℕ) → b ≤ length pool → length (take b pool) ≡ b
-length_front b pool h = simp length-take (omega arith)
-
 front_paste : (pool w : List ℕ) (b l : ℕ) → b ≤ length pool → take b (paste pool b w l) ≡ take b pool
 front_paste pool w b l h =
-    ap (take b) (append_assoc (take b pool) (take l w) (drop (b + l) pool)) ∙ take_at (take b pool) (take l w ++ drop (b + l) pool) b (length_front b pool h)
+    ap (take b) (append_assoc (take b pool) (take l w) (drop (b + l) pool)) ∙ take_at (take b pool) (take l w ++ drop (b + l) pool) b (length-take-le b pool h)
 
 same_row : (b : ℕ) (x y : List ℕ) → take b x ≡ take b y → (r : Option TextRow) → text_of x (below b r) ≡ text_of y (below b r)
 same_row b x y e None = refl
@@ -54,10 +52,7 @@ module _ (n b : ℕ) (rows : List TextRow) (pool : List ℕ) where
   still_piece x e n' b' f g p = ap (λ (k : ℕ). piece_bytes k b' rows x p) f ∙ ap (λ (k : ℕ). piece_bytes n k rows x p) g ∙ same_piece x e p
 
   gathered-append : (ps qs : List (Option Piece)) → gathered n b rows pool (ps ++ qs) ≡ gathered n b rows pool ps ++ gathered n b rows pool qs
-  gathered-append [] qs = refl
-  gathered-append (p ∷ ps) qs =
-      ap (λ (z : List ℕ). unwrap_or (piece_bytes n b rows pool p) [] ++ z) (gathered-append ps qs)
-      ∙ sym (append_assoc (unwrap_or (piece_bytes n b rows pool p) []) (gathered n b rows pool ps) (gathered n b rows pool qs))
+  gathered-append = flat_map-append (λ (p : Option Piece). unwrap_or (piece_bytes n b rows pool p) [])
 
   present_at : (ps qs : List (Option Piece)) (p : Option Piece) → present n b rows pool (ps ++ p ∷ qs) ≡ true → is_some (piece_bytes n b rows pool p) ≡ true
   present_at ps qs p h = let e = list_all-append (λ (q : Option Piece). is_some (piece_bytes n b rows pool q)) ps (p ∷ qs) in grind (arith, nat_tests)

@@ -7,10 +7,10 @@ use Rattle.pool.specs.declared.piece.Piece.TheVariants.{Text, Bytes}
 use Rattle.pool.specs.declared.row.TextRow.{TextRow}
 use Rattle.pool.specs.Made.{Left, MadeOf, Valid, all_here, all_in, answer, joined_in, piece_in, room, room_in, told, whole}
 use Rattle.pool.specs.Pieces.{piece_bytes}
-use Rattle.pool.specs.Texts.{Holds, bytes_room, joined, rows_room}
+use Rattle.pool.specs.Texts.{Holds, bytes_room, rows_room}
 use Rattle.std.proofs.lemmas.Str.{IsUtf8-append, IsUtf8-nil}
 use Rattle.std.proofs.lemmas.Bool.Decides.{nat_tests}
-use Rattle.std.specs.List.{AllByRecursion, slice_get}
+use Rattle.std.specs.List.{AllByRecursion, concat, flat_map, list_all, slice_get}
 use Rattle.table.specs.declared.id.Id.{Id}
 use Rattle.table.specs.declared.id.Texts.{Texts}
 use Rattle.table.specs.declared.refusal.Cause.{Cause}
@@ -33,20 +33,16 @@ module _ (m : Mark) (rows : List TextRow) (pool : List ℕ) (ts : List (List ℕ
   same_piece (Some (Bytes bytes)) = refl
 
   same_all : (ps : List (Option Piece)) → all_here m rows pool ps ≡ all_in ts ps
-  same_all [] = refl
-  same_all (p ∷ ps) =
-      ap (λ (o : Option (List ℕ)). is_some o && all_here m rows pool ps) (same_piece p) ∙ ap (λ (b : Bool). is_some (piece_in ts p) && b) (same_all ps)
+  same_all ps = λ i. list_all (λ p. is_some (same_piece p i)) ps
 
   same_whole : (ps : List (Option Piece)) → whole m rows pool ps ≡ joined_in ts ps
-  same_whole [] = refl
-  same_whole (p ∷ ps) =
-      ap (λ (o : Option (List ℕ)). unwrap_or o [] ++ whole m rows pool ps) (same_piece p) ∙ ap (λ (z : List ℕ). unwrap_or (piece_in ts p) [] ++ z) (same_whole ps)
+  same_whole ps = λ i. flat_map (λ p. unwrap_or (same_piece p i) []) ps
 
   same_room : (ps : List (Option Piece)) → room m rows pool ps ≡ room_in ts rows pool ps
   same_room ps =
       ap (λ (w : List ℕ). leb (m.bytes + length w) (bytes_room pool) && ltb m.rows (rows_room rows)) (same_whole ps)
       ∙ ap (λ (b : ℕ). leb (b + length (joined_in ts ps)) (bytes_room pool) && ltb m.rows (rows_room rows)) (sym (bytes_used m rows pool ts h))
-      ∙ ap (λ (n : ℕ). leb (length (joined ts) + length (joined_in ts ps)) (bytes_room pool) && ltb n (rows_room rows)) (sym (rows_used m rows pool ts h))
+      ∙ ap (λ (n : ℕ). leb (length (concat ts) + length (joined_in ts ps)) (bytes_room pool) && ltb n (rows_room rows)) (sym (rows_used m rows pool ts h))
 
   pub made_of : (ps : List (Option Piece)) → AllByRecursion Valid ps → (r : Result (Option (Id Texts)) Cause) (m' : Mark) (rows' : List TextRow) (pool' : List ℕ)
       → told r ≡ answer (all_here m rows pool ps) (room m rows pool ps) m.rows → Left (all_here m rows pool ps && room m rows pool ps) m rows pool (whole m rows pool ps) m' rows' pool'
