@@ -1,5 +1,5 @@
 -- Pieces that are pushed one after another: those so far stand behind the texts, which stay as they are.
-use Rattle.std.proofs.Common.{◌≡◌, ℕ, ◌+◌, ◌<◌, ◌≤◌, Bool, true, false, cond, ltb, leb, ◌⊎◌, List, [], ◌∷◌, ◌++◌, length, take, drop, is_some, Some, None, Option, unwrap_or, sym, refl, ap, ◌∙◌, subst, inl, inr, append_assoc, append-nil, le_refl, add-zero, arith, length-append, length-take}
+use Rattle.std.proofs.Common.{◌≡◌, ℕ, ◌+◌, ◌<◌, ◌≤◌, Bool, true, false, cond, ltb, leb, List, [], ◌∷◌, ◌++◌, length, take, drop, is_some, Some, None, Option, unwrap_or, sym, refl, ap, ◌∙◌, subst, append_assoc, append-nil, le_refl, add-zero, arith, length-append}
 use Rattle.pool.proofs.Held.{below_mark}
 use Rattle.pool.specs.declared.making.Making.{Making}
 use Rattle.pool.specs.declared.piece.Piece.{Piece}
@@ -7,12 +7,12 @@ use Rattle.pool.specs.declared.piece.Piece.TheVariants.{Text, Bytes}
 use Rattle.pool.specs.declared.row.TextRow.{TextRow}
 use Rattle.pool.specs.Makings.{OnlyBytes}
 use Rattle.pool.specs.Pieces.{Gathered, Pushed, below, gathered, piece_bytes, present, text_of}
-use Rattle.pool.specs.Texts.{bytes_room, text_at}
+use Rattle.pool.specs.Texts.{bytes_room}
 use Rattle.std.proofs.lemmas.List.Edits.{length-paste, paste_none, paste-paste}
 use Rattle.std.proofs.lemmas.Grind.{flat_map-append}
 use Rattle.std.proofs.lemmas.List.{length-take-le, take_at}
 use Rattle.std.proofs.lemmas.List.Folds.{list_all-append}
-use Rattle.std.proofs.lemmas.Bool.Decides.{leb_tells, nat_tests}
+use Rattle.std.proofs.lemmas.Bool.Decides.{nat_tests}
 use lib.Seq.{paste}
 use Rattle.table.specs.Tables.{entry}
 
@@ -33,13 +33,7 @@ front_paste pool w b l h =
 
 same_row : (b : ℕ) (x y : List ℕ) → take b x ≡ take b y → (r : Option TextRow) → text_of x (below b r) ≡ text_of y (below b r)
 same_row b x y e None = refl
-same_row b x y e (Some r) = go (leb (r.start + r.len) b) (leb_tells (r.start + r.len) b)
-  where
-    go : (t : Bool) → ((t ≡ true) × (r.start + r.len ≤ b)) ⊎ ((t ≡ false) × (b < r.start + r.len)) → text_of x (cond t (Some r) None) ≡ text_of y (cond t (Some r) None)
-    go true (inl p) =
-        ap Some (sym (below_mark x b r.start r.len p.1) ∙ ap (λ (z : List ℕ). text_at z r) e ∙ below_mark y b r.start r.len p.1)
-    go true (inr p) = let z : ◌≡◌ {A = ℕ} 0 1 = cc in absurd (omega arith)
-    go false p = refl
+same_row b x y e (Some r) = grind (arith, nat_tests, below_mark x b r.start r.len, below_mark y b r.start r.len, ap (λ (z : List ℕ). take r.len (drop r.start z)) e)
 
 module _ (n b : ℕ) (rows : List TextRow) (pool : List ℕ) where
   same_piece : (x : List ℕ) → take b x ≡ take b pool → (p : Option Piece) → piece_bytes n b rows x p ≡ piece_bytes n b rows pool p
@@ -49,7 +43,7 @@ module _ (n b : ℕ) (rows : List TextRow) (pool : List ℕ) where
 
   -- and where as many rows are in use, and the texts end at the same byte
   still_piece : (x : List ℕ) → take b x ≡ take b pool → (n' b' : ℕ) → n' ≡ n → b' ≡ b → (p : Option Piece) → piece_bytes n' b' rows x p ≡ piece_bytes n b rows pool p
-  still_piece x e n' b' f g p = ap (λ (k : ℕ). piece_bytes k b' rows x p) f ∙ ap (λ (k : ℕ). piece_bytes n k rows x p) g ∙ same_piece x e p
+  still_piece x e n' b' f g p = (λ i. piece_bytes (f i) (g i) rows x p) ∙ same_piece x e p
 
   gathered-append : (ps qs : List (Option Piece)) → gathered n b rows pool (ps ++ qs) ≡ gathered n b rows pool ps ++ gathered n b rows pool qs
   gathered-append = flat_map-append (λ (p : Option Piece). unwrap_or (piece_bytes n b rows pool p) [])

@@ -1,5 +1,5 @@
 -- The pieces that a text is made of, where n rows are in use and the texts end at b.
-use Rattle.std.specs.Prelude.{◌≡◌, ℕ, ◌+◌, Bool, true, cond, List, [], ◌∷◌, ◌++◌, length, take, is_some, Some, None, Option, nat_le, nat_lt}
+use Rattle.std.specs.Prelude.{◌≡◌, ℕ, ◌+◌, Bool, true, cond, List, [], length, take, is_some, Some, None, Option, nat_le, nat_lt}
 use Rattle.pool.specs.declared.piece.Piece.{Piece}
 use Rattle.pool.specs.declared.piece.Piece.TheVariants.{Text, Bytes}
 use Rattle.pool.specs.declared.row.TextRow.{TextRow}

@@ -1,5 +1,5 @@
 -- Which texts a pool holds. They stand one after another below the mark, and each has a row that says where.
-use Rattle.std.specs.Prelude.{◌≡◌, ℕ, ◌+◌, ◌≤◌, min, List, [], ◌∷◌, ◌++◌, length, take, drop, IsUtf8}
+use Rattle.std.specs.Prelude.{◌≡◌, ℕ, ◌+◌, ◌≤◌, min, List, [], ◌∷◌, length, take, drop, IsUtf8}
 use Rattle.pool.specs.declared.mark.Mark.{Mark}
 use Rattle.pool.specs.declared.row.TextRow.{TextRow}
 use Rattle.std.specs.List.{AllByRecursion, concat}

@@ -18,6 +18,7 @@ pub fn capacity(pool: &[u8]) -> usize
     pool.len().min(LIMIT)
 }
 
+#[tactic(auto, using(std::proofs::lemmas::Slice::overwrites))]
 fn overwrite(pool: &mut [u8], at: usize, piece: &[u8])
     requires { at + length piece.now ≤ length pool.old }
     ensures { pool.new ≡ paste pool.old at piece.now (length piece.now) }

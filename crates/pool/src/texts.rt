@@ -35,6 +35,7 @@ fn part(pool: &[u8], row: TextRow) -> Option<&[u8]>
 }
 
 // The bytes of a text, if the number names one.
+#[tactic(auto, using(crate::proofs::Held::no_row, crate::proofs::Held::row_in_pool, crate::proofs::Held::row_text))]
 pub fn text_bytes<'p>(mark: &Mark, pool: &'p [u8], rows: &[TextRow], id: TextId) -> Option<&'p [u8]>
     ensures { (ts : List (List ℕ)) → Holds mark.now rows.now pool.now ts → option_map (λ t. t.now) result ≡ slice_get ts id.number }
 {

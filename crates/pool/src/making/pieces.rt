@@ -25,6 +25,7 @@ impl Making<'_> {
     }
 
     // Adds a text of the pool; nothing is done where there is none, or where it does not fit.
+    #[tactic(auto, using(crate::proofs::Pushes::below_inside, crate::proofs::Pushes::part_pushed))]
     fn push_text(&mut self, pool: &mut [u8], rows: &[TextRow], id: TextId) -> Option<()>
         ensures unchanged { OnlyBytes self.old self.new }
         ensures pushed { Pushed (text_of pool.old (row_of self.old.mark.now.rows self.old.start rows.now id.number)) self.old.mark.now.bytes pool.old result self.new.mark.now.bytes pool.new }
