@@ -10,7 +10,7 @@ use Rattle.pool.specs.Pieces.{Gathered, Pushed, below, gathered, piece_bytes, pr
 use Rattle.pool.specs.Texts.{bytes_room}
 use Rattle.std.proofs.lemmas.List.Edits.{length-paste, paste_none, paste-paste}
 use Rattle.std.proofs.lemmas.Grind.{flat_map-append}
-use Rattle.std.proofs.lemmas.List.{length-take-le, take_at}
+use Rattle.std.proofs.lemmas.List.{flat_map_more, length-take-le, take_at}
 use Rattle.std.proofs.lemmas.List.Folds.{list_all-append}
 use Rattle.std.proofs.lemmas.Bool.Decides.{nat_tests}
 use lib.Seq.{paste}
@@ -64,10 +64,10 @@ module _ (n b : ℕ) (rows : List TextRow) (pool : List ℕ) where
     fits_pool = omega (arith, s.fits)
 
     pub same_length : length pool₁ ≡ length pool
-    same_length = ap length s.bytes ∙ length-paste pool b (gathered n b rows pool ps) (length (gathered n b rows pool ps)) fits_pool (le_refl (length (gathered n b rows pool ps)))
+    same_length = ap length s.bytes ∙ length-paste pool b _ _ fits_pool (le_refl _)
 
     pub same_front : take b pool₁ ≡ take b pool
-    same_front = ap (take b) s.bytes ∙ front_paste pool (gathered n b rows pool ps) b (length (gathered n b rows pool ps)) inside
+    same_front = ap (take b) s.bytes ∙ front_paste pool _ b _ inside
 
     pub one_more : (n' b' : ℕ) → n' ≡ n → b' ≡ b → (p : Option Piece) (r : Option (Unit {0})) (b₂ : ℕ) (pool₂ : List ℕ) → Pushed (piece_bytes n' b' rows pool₁ p) b₁ pool₁ r b₂ pool₂
         → is_some r ≡ true → So-far n b rows pool (ps ++ p ∷ []) b₂ pool₂
@@ -75,21 +75,19 @@ module _ (n b : ℕ) (rows : List TextRow) (pool : List ℕ) where
         go (piece_bytes n b rows pool p) refl (subst (λ (t : Option (List ℕ)). Pushed t b₁ pool₁ r b₂ pool₂) (still_piece pool₁ same_front n' b' e f p) h)
       where
         go : (t : Option (List ℕ)) → piece_bytes n b rows pool p ≡ t → Pushed t b₁ pool₁ r b₂ pool₂ → So-far n b rows pool (ps ++ p ∷ []) b₂ pool₂
-        go None e k = let z : is_some r ≡ false = ap is_some k.0 in let y : ◌≡◌ {A = ℕ} 0 1 = cc in absurd (omega arith)
+        go None e k = grind (arith, ap is_some k.0)
         go (Some t) e k =
             let g = gathered n b rows pool ps in
-            let more : gathered n b rows pool (ps ++ p ∷ []) ≡ g ++ t =
-            gathered-append ps (p ∷ []) ∙ ap (λ (o : Option (List ℕ)). g ++ (unwrap_or o [] ++ [])) e ∙ ap (λ (z : List ℕ). g ++ z) (append-nil t) in
-            let long : length (gathered n b rows pool (ps ++ p ∷ [])) ≡ length g + length t = ap length more ∙ length-append g t in
+            let more : g ++ t ≡ gathered n b rows pool (ps ++ p ∷ []) =
+            (λ i. g ++ unwrap_or (sym e i) []) ∙ flat_map_more (λ (q : Option Piece). unwrap_or (piece_bytes n b rows pool q) []) [] ps p in
+            let long : length g + length t ≡ length (gathered n b rows pool (ps ++ p ∷ [])) = sym (length-append g t) ∙ ap length more in
             let room : leb (b₁ + length t) (bytes_room pool₁) ≡ true = sym k.0 ∙ some in
             let fit : b₁ + length t ≤ bytes_room pool₁ = grind (arith, nat_tests) in
             record {
-              mark = k.1 ∙ ap (λ (c : Bool). cond c (b₁ + length t) b₁) some ∙ omega (arith, s.mark, long);
+              mark = k.1 ∙ (λ i. cond (some i) (b₁ + length t) b₁) ∙ omega (arith, s.mark, long);
               bytes =
-                  k.2 ∙ ap (λ (c : Bool). cond c (paste pool₁ b₁ t (length t)) pool₁) some
-                  ∙ ap (λ (x : List ℕ). paste x b₁ t (length t)) s.bytes ∙ ap (λ (m : ℕ). paste (paste pool b g (length g)) m t (length t)) s.mark
-                  ∙ paste-paste pool b g t (length g) (length t) refl refl inside
-                  ∙ ap (λ (m : ℕ). paste pool b (g ++ t) m) (sym long) ∙ ap (λ (w : List ℕ). paste pool b w (length (gathered n b rows pool (ps ++ p ∷ [])))) (sym more);
+                  k.2 ∙ (λ i. cond (some i) (paste (s.bytes i) (s.mark i) t (length t)) pool₁) ∙ paste-paste pool b g t (length g) (length t) refl refl inside
+                  ∙ (λ i. paste pool b (more i) (long i));
               fits = omega (arith, fit, s.mark, long, same_length);
             }
 
@@ -106,26 +104,16 @@ module _ (n b : ℕ) (rows : List TextRow) (pool : List ℕ) where
         here k = present_at ps rest p (sym (ap (present n b rows pool) e) ∙ k)
 
         go : (t : Option (List ℕ)) → piece_bytes n b rows pool p ≡ t → Pushed t b₁ pool₁ r b₂ pool₂ → Gathered n b rows pool all r b₂ pool₂
-        go None f k =
-            record {
-              fit = λ a. let z : is_some (piece_bytes n b rows pool p) ≡ true = here a in let w : is_some (piece_bytes n b rows pool p) ≡ false = ap is_some f in let y : ◌≡◌ {A = ℕ} 0 1 = cc in absurd (omega arith);
-              mark = never;
-              bytes = never;
-              front = ap (take b) k.2 ∙ same_front;
-              long = ap length k.2 ∙ same_length;
-            }
+        go None f k = record { fit = λ a. grind (arith, here a, ap is_some f); mark = never; bytes = never; front = ap (take b) k.2 ∙ same_front; long = ap length k.2 ∙ same_length }
         go (Some t) f k =
             let g = gathered n b rows pool ps in
-            let kept : pool₂ ≡ pool₁ = k.2 ∙ ap (λ (c : Bool). cond c (paste pool₁ b₁ t (length t)) pool₁) none in
-            let whole : gathered n b rows pool all ≡ g ++ (t ++ gathered n b rows pool rest) =
-            ap (gathered n b rows pool) e ∙ gathered-append ps (p ∷ rest) ∙ ap (λ (o : Option (List ℕ)). g ++ (unwrap_or o [] ++ gathered n b rows pool rest)) f in
-            let long : length (gathered n b rows pool all) ≡ length g + (length t + length (gathered n b rows pool rest)) =
-            ap length whole ∙ length-append g (t ++ gathered n b rows pool rest) ∙ ap (λ (m : ℕ). length g + m) (length-append t (gathered n b rows pool rest)) in
+            let left = gathered n b rows pool rest in
+            let kept : pool₂ ≡ pool₁ = k.2 ∙ (λ i. cond (none i) (paste pool₁ b₁ t (length t)) pool₁) in
+            let whole : gathered n b rows pool all ≡ g ++ (t ++ left) = ap (gathered n b rows pool) e ∙ gathered-append ps (p ∷ rest) ∙ (λ i. g ++ (unwrap_or (f i) [] ++ left)) in
+            let long : length (gathered n b rows pool all) ≡ length g + (length t + length left) = ap length whole ∙ length-append g (t ++ left) ∙ ap (λ (m : ℕ). length g + m) (length-append t left) in
             let full : leb (b₁ + length t) (bytes_room pool₁) ≡ false = sym k.0 ∙ none in
-            let over : bytes_room pool₁ < b₁ + length t = grind (arith, nat_tests) in
-            let past : bytes_room pool < b + length (gathered n b rows pool all) = omega (arith, over, s.mark, long, same_length) in
             record {
-              fit = λ a. none ∙ grind (arith, nat_tests);
+              fit = λ a. none ∙ grind (arith, nat_tests, full, s.mark, long, same_length);
               mark = never;
               bytes = never;
               front = ap (take b) kept ∙ same_front;
@@ -134,12 +122,5 @@ module _ (n b : ℕ) (rows : List TextRow) (pool : List ℕ) where
 
     pub finished : (all : List (Option Piece)) → all ≡ ps → Gathered n b rows pool all (Some tt) b₁ pool₁
     finished all e =
-        let same : gathered n b rows pool ps ≡ gathered n b rows pool all = ap (gathered n b rows pool) (sym e) in
-        let room : b + length (gathered n b rows pool all) ≤ bytes_room pool = omega (arith, s.fits, ap length same) in
-        record {
-          fit = λ a. grind (arith, nat_tests);
-          mark = λ a. s.mark ∙ ap (λ (w : List ℕ). b + length w) same;
-          bytes = λ a. s.bytes ∙ ap (λ (w : List ℕ). paste pool b w (length w)) same;
-          front = same_front;
-          long = same_length;
-        }
+        subst (λ (qs : List (Option Piece)). Gathered n b rows pool qs (Some tt) b₁ pool₁) (sym e)
+        (record { fit = λ a. grind (arith, nat_tests, s.fits); mark = λ a. s.mark; bytes = λ a. s.bytes; front = same_front; long = same_length })
