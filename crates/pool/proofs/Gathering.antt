@@ -1,5 +1,5 @@
 -- Pieces that are pushed one after another: those so far stand behind the texts, which stay as they are.
-use Rattle.std.proofs.Common.{◌≡◌, ℕ, ◌+◌, ◌<◌, ◌≤◌, Bool, true, false, cond, ltb, leb, List, [], ◌∷◌, ◌++◌, length, take, drop, is_some, Some, None, Option, unwrap_or, sym, refl, ap, ◌∙◌, subst, append_assoc, append-nil, le_refl, add-zero, arith, length-append}
+use Rattle.std.proofs.Common.{◌≡◌, ℕ, ◌+◌, ◌<◌, ◌≤◌, true, false, cond, ltb, leb, List, [], ◌∷◌, ◌++◌, length, get_or, take, drop, is_some, Some, None, Option, unwrap_or, sym, refl, ap, ◌∙◌, subst, append_assoc, le_refl, add-zero, arith, length-append}
 use Rattle.pool.proofs.Held.{below_mark}
 use Rattle.pool.specs.declared.making.Making.{Making}
 use Rattle.pool.specs.declared.piece.Piece.{Piece}
@@ -10,7 +10,7 @@ use Rattle.pool.specs.Pieces.{Gathered, Pushed, below, gathered, piece_bytes, pr
 use Rattle.pool.specs.Texts.{bytes_room}
 use Rattle.std.proofs.lemmas.List.Edits.{length-paste, paste_none, paste-paste}
 use Rattle.std.proofs.lemmas.Grind.{flat_map-append}
-use Rattle.std.proofs.lemmas.List.{flat_map_more, length-take-le, take_at}
+use Rattle.std.proofs.lemmas.List.{drop_more, flat_map_more, length-take-le, take-append-drop, take_at}
 use Rattle.std.proofs.lemmas.List.Folds.{list_all-append}
 use Rattle.std.proofs.lemmas.Bool.Decides.{nat_tests}
 use lib.Seq.{paste}
@@ -22,8 +22,8 @@ pub record So-far (n b : ℕ) (rows : List TextRow) (pool : List ℕ) (ps : List
   pub bytes : pool' ≡ paste pool b (gathered n b rows pool ps) (length (gathered n b rows pool ps))
   pub fits : b + length (gathered n b rows pool ps) ≤ bytes_room pool
 
-pub only_bytes-trans : (x y z : Making) → OnlyBytes x y → OnlyBytes y z → OnlyBytes x z
-only_bytes-trans x y z e f = record { lent = f.lent ∙ e.lent; start = f.start ∙ e.start; kept = f.kept ∙ e.kept; rows = f.rows ∙ e.rows }
+pub only_bytes_trans : (x y z : Making) → OnlyBytes x y → OnlyBytes y z → OnlyBytes x z
+only_bytes_trans x y z e f = record { lent = f.lent ∙ e.lent; start = f.start ∙ e.start; kept = f.kept ∙ e.kept; rows = f.rows ∙ e.rows }
 
 -- ---- the texts stay, and so do the pieces that are texts
 
@@ -69,10 +69,11 @@ module _ (n b : ℕ) (rows : List TextRow) (pool : List ℕ) where
     pub same_front : take b pool₁ ≡ take b pool
     same_front = ap (take b) s.bytes ∙ front_paste pool _ b _ inside
 
-    pub one_more : (n' b' : ℕ) → n' ≡ n → b' ≡ b → (p : Option Piece) (r : Option (Unit {0})) (b₂ : ℕ) (pool₂ : List ℕ) → Pushed (piece_bytes n' b' rows pool₁ p) b₁ pool₁ r b₂ pool₂
-        → is_some r ≡ true → So-far n b rows pool (ps ++ p ∷ []) b₂ pool₂
-    one_more n' b' e f p r b₂ pool₂ h some =
-        go (piece_bytes n b rows pool p) refl (subst (λ (t : Option (List ℕ)). Pushed t b₁ pool₁ r b₂ pool₂) (still_piece pool₁ same_front n' b' e f p) h)
+    pub one_more : (n' b' : ℕ) → n' ≡ n → b' ≡ b → (p : Option Piece) (all : List (Option Piece)) → all ≡ ps ++ p ∷ [] → (r : Option (Unit {0})) (b₂ : ℕ) (pool₂ : List ℕ)
+        → Pushed (piece_bytes n' b' rows pool₁ p) b₁ pool₁ r b₂ pool₂ → is_some r ≡ true → So-far n b rows pool all b₂ pool₂
+    one_more n' b' e f p all a r b₂ pool₂ h some =
+        subst (λ (qs : List (Option Piece)). So-far n b rows pool qs b₂ pool₂) (sym a)
+        (go (piece_bytes n b rows pool p) refl (subst (λ (t : Option (List ℕ)). Pushed t b₁ pool₁ r b₂ pool₂) (still_piece pool₁ same_front n' b' e f p) h))
       where
         go : (t : Option (List ℕ)) → piece_bytes n b rows pool p ≡ t → Pushed t b₁ pool₁ r b₂ pool₂ → So-far n b rows pool (ps ++ p ∷ []) b₂ pool₂
         go None e k = grind (arith, ap is_some k.0)
@@ -92,11 +93,15 @@ module _ (n b : ℕ) (rows : List TextRow) (pool : List ℕ) where
             }
 
     -- a piece that is missing or does not fit ends it
-    pub stopped : (n' b' : ℕ) → n' ≡ n → b' ≡ b → (p : Option Piece) (rest all : List (Option Piece)) → all ≡ ps ++ p ∷ rest → (r : Option (Unit {0})) (b₂ : ℕ) (pool₂ : List ℕ)
-        → Pushed (piece_bytes n' b' rows pool₁ p) b₁ pool₁ r b₂ pool₂ → is_some r ≡ false → Gathered n b rows pool all r b₂ pool₂
-    stopped n' b' same_rows same_end p rest all e r b₂ pool₂ h none =
-        go (piece_bytes n b rows pool p) refl (subst (λ (t : Option (List ℕ)). Pushed t b₁ pool₁ r b₂ pool₂) (still_piece pool₁ same_front n' b' same_rows same_end p) h)
+    pub stopped : (n' b' : ℕ) → n' ≡ n → b' ≡ b → (p : Option Piece) (rest all : List (Option Piece)) → all ≡ ps ++ p ∷ rest → (r o : Option (Unit {0})) (b₂ : ℕ) (pool₂ : List ℕ)
+        → Pushed (piece_bytes n' b' rows pool₁ p) b₁ pool₁ r b₂ pool₂ → r ≡ None → o ≡ None → Gathered n b rows pool all o b₂ pool₂
+    stopped n' b' same_rows same_end p rest all e r o b₂ pool₂ h is_none o_none =
+        subst (λ (q : Option (Unit {0})). Gathered n b rows pool all q b₂ pool₂) (is_none ∙ sym o_none)
+        (go (piece_bytes n b rows pool p) refl (subst (λ (t : Option (List ℕ)). Pushed t b₁ pool₁ r b₂ pool₂) (still_piece pool₁ same_front n' b' same_rows same_end p) h))
       where
+        none : is_some r ≡ false
+        none = ap is_some is_none
+
         never : {A : Type 0} → is_some r ≡ true → A
         never k = let y : ◌≡◌ {A = ℕ} 0 1 = cc in absurd (omega arith)
 
@@ -124,3 +129,7 @@ module _ (n b : ℕ) (rows : List TextRow) (pool : List ℕ) where
     finished all e =
         subst (λ (qs : List (Option Piece)). Gathered n b rows pool qs (Some tt) b₁ pool₁) (sym e)
         (record { fit = λ a. grind (arith, nat_tests, s.fits); mark = λ a. s.mark; bytes = λ a. s.bytes; front = same_front; long = same_length })
+
+-- the pieces before one, it, and those after it
+pub split : (ps : List (Option Piece)) (k : ℕ) → k < length ps → ps ≡ take k ps ++ get_or ps k None ∷ drop (k + 1) ps
+split ps k h = sym (take-append-drop k ps) ∙ ap (λ (qs : List (Option Piece)). take k ps ++ qs) (drop_more ps k None h)

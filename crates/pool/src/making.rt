@@ -36,6 +36,7 @@ fn repeat(pool: &mut [u8], from: usize, len: usize, at: usize)
 
 // A text that is being put together at the end of the used bytes. The mark rises with its bytes, and
 // goes back when this is dropped, unless the finished text was kept.
+// Bytes and rows are passed beside it, since it guards the mark alone: what lies past the mark need not be restored.
 pub struct Making<'m> {
     mark: &'m mut Mark,
     start: u32,

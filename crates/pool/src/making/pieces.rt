@@ -64,6 +64,7 @@ impl Making<'_> {
     }
 
     // Adds all pieces, up to the first that is missing or does not fit.
+    #[tactic(auto, using(crate::proofs::Gathering::none_yet, crate::proofs::Gathering::finished, crate::proofs::Gathering::only_bytes_trans))]
     fn push_all(
         &mut self,
         pool: &mut [u8],
