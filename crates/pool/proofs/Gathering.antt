@@ -103,7 +103,7 @@ module _ (n b : ℕ) (rows : List TextRow) (pool : List ℕ) where
         none = ap is_some is_none
 
         never : {A : Type 0} → is_some r ≡ true → A
-        never k = let y : ◌≡◌ {A = ℕ} 0 1 = cc in absurd (omega arith)
+        never k = grind arith
 
         here : present n b rows pool all ≡ true → is_some (piece_bytes n b rows pool p) ≡ true
         here k = present_at ps rest p (sym (ap (present n b rows pool) e) ∙ k)

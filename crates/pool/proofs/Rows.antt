@@ -26,7 +26,7 @@ named (t ∷ ts) a p e (suc k) =
 
 -- and lies among the texts
 pub inside : (ts : List (List ℕ)) (a : ℕ) (k : ℕ) (r : TextRow) → slice_get (rows_from a ts) k ≡ Some r → r.start + r.len ≤ a + length (concat ts)
-inside [] a k r e = let z : ◌≡◌ {A = ℕ} 0 1 = cc in absurd (omega arith)
+inside [] a k r e = grind arith
 inside (t ∷ ts) a zero r e =
     let s : a ≡ r.start = cc in
     let l : length t ≡ r.len = cc in
