@@ -1,9 +1,9 @@
+-- The pieces so far stand behind the texts, and nothing but the mark's bytes changed.
 use Rattle.std.proofs.Common.{take}
 use Rattle.pool.proofs.Gathering.{So-far}
 use Rattle.pool.proofs.making.Making.push_all.Given as goal
 use Rattle.pool.specs.Makings.{OnlyBytes}
 
--- the pieces so far stand behind the texts
 abbrev pub invariant-loop-piece : goal.invariant-loop-piece
 invariant-loop-piece l =
     OnlyBytes l.initial.self l.self
