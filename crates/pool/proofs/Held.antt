@@ -1,18 +1,18 @@
 -- What a pool that holds texts says of its rows and its mark.
-use Rattle.std.proofs.Common.{◌≡◌, ℕ, zero, suc, ◌+◌, ◌-◌, ◌<◌, ◌≤◌, Bool, true, false, cond, ltb, leb, ◌⊎◌, List, [], ◌∷◌, ◌++◌, length, take, drop, set, Some, None, IsUtf8, Option, sym, refl, ap, ◌∙◌, inl, inr, le_refl, le_of_suc-le-suc, not-suc-le-zero, zero-add, arith, length-set, length-take}
-use Rattle.pool.proofs.Rows.{inside, joined_push, length-rows_from, named, rows_from-push}
+use Rattle.std.proofs.Common.{◌≡◌, ℕ, zero, suc, ◌+◌, ◌-◌, ◌<◌, ◌≤◌, true, cond, ltb, leb, List, [], ◌∷◌, ◌++◌, length, take, drop, set, Some, None, IsUtf8, Option, sym, refl, ap, ◌∙◌, le_refl, le_of_suc-le-suc, not-suc-le-zero, zero-add, arith, length-set, length-take}
+use Rattle.pool.proofs.Rows.{inside, concat_push, length-rows_from, named, rows_from-push}
 use Rattle.pool.specs.declared.mark.Mark.{Mark}
 use Rattle.pool.specs.declared.row.TextRow.{TextRow}
 use Rattle.pool.specs.Pieces.{below, text_of}
-use Rattle.pool.specs.Texts.{Holds, bytes_room, joined, rows_from, rows_room, text_at}
+use Rattle.pool.specs.Texts.{Holds, bytes_room, rows_from, rows_room, text_at}
 use Rattle.std.proofs.lemmas.List.Edits.{length-paste, take-paste}
 use Rattle.std.proofs.ByRecursion.{All-push}
 use Rattle.std.proofs.lemmas.List.{drop-take, take_all, take_more_set, take-take}
 use Rattle.std.proofs.lemmas.Option.{slice_get_past}
-use Rattle.std.proofs.lemmas.Bool.Decides.{leb_tells, nat_tests}
+use Rattle.std.proofs.lemmas.Bool.Decides.{nat_tests}
 use Rattle.std.specs.Option.{option_map}
 use lib.Seq.{paste}
-use Rattle.std.specs.List.{slice_get}
+use Rattle.std.specs.List.{concat, slice_get}
 use Rattle.table.specs.Tables.{entry}
 
 nth_take : {X : Type 0} (n : ℕ) (xs : List X) (k : ℕ) → k < n → slice_get (take n xs) k ≡ slice_get xs k
@@ -23,17 +23,7 @@ nth_take (suc n) (x ∷ xs) (suc k) h = nth_take n xs k (le_of_suc-le-suc h)
 
 -- the row that a number below the count names is that of the rows in use
 row_is : (n : ℕ) (rows : List TextRow) (k : ℕ) → n ≤ rows_room rows → cond (ltb k n) (entry 4096 rows k) None ≡ slice_get (take n rows) k
-row_is n rows k h = go (ltb k n) (leb_tells (suc k) n)
-  where
-    all : (b : Bool) → b ≡ true → cond b (slice_get rows k) None ≡ slice_get rows k
-    all true e = refl
-    all false e = let z : ◌≡◌ {A = ℕ} 0 1 = cc in absurd (omega arith)
-
-    go : (b : Bool) → ((b ≡ true) × (suc k ≤ n)) ⊎ ((b ≡ false) × (n < suc k)) → cond b (entry 4096 rows k) None ≡ slice_get (take n rows) k
-    go true (inl p) = all (ltb k (rows_room rows)) (grind (arith, nat_tests)) ∙ sym (nth_take n rows k p.1)
-    go true (inr p) = let z : ◌≡◌ {A = ℕ} 0 1 = cc in absurd (omega arith)
-    go false (inl p) = let z : ◌≡◌ {A = ℕ} 0 1 = cc in absurd (omega arith)
-    go false (inr p) = sym (slice_get_past (take n rows) k (simp length-take (omega (arith, p.1))))
+row_is n rows k h = grind (arith, nat_tests, nth_take n rows k, slice_get_past (take n rows) k, length-take n rows)
 
 -- below the mark the pool is the texts
 pub below_mark : (pool : List ℕ) (b s l : ℕ) → s + l ≤ b → take l (drop s (take b pool)) ≡ take l (drop s pool)
@@ -44,14 +34,14 @@ below_mark pool b s l h =
 
 module _ (m : Mark) (rows : List TextRow) (pool : List ℕ) (ts : List (List ℕ)) (h : Holds m rows pool ts) where
   -- the mark is where the texts end
-  pub bytes_used : length (joined ts) ≡ m.bytes
+  pub bytes_used : length (concat ts) ≡ m.bytes
   bytes_used = ap length (sym h.bytes_are) ∙ simp length-take (omega (arith, h.bytes_fit))
 
   found : (k : ℕ) → cond (ltb k m.rows) (entry 4096 rows k) None ≡ slice_get (rows_from 0 ts) k
   found k = row_is m.rows rows k h.rows_fit ∙ ap (λ (rs : List TextRow). slice_get rs k) h.rows_are
 
   pub no_row : (k : ℕ) → None ≡ cond (ltb k m.rows) (entry 4096 rows k) None → None ≡ slice_get ts k
-  no_row k e = ap (option_map (text_at (joined ts))) (e ∙ found k) ∙ named ts 0 [] refl k
+  no_row k e = ap (option_map (text_at (concat ts))) (e ∙ found k) ∙ named ts 0 [] refl k
 
   pub row_inside : (k : ℕ) (r : TextRow) → Some r ≡ cond (ltb k m.rows) (entry 4096 rows k) None → r.start + r.len ≤ m.bytes
   row_inside k r e = omega (arith, inside ts 0 k r (sym (e ∙ found k)), bytes_used)
@@ -59,12 +49,10 @@ module _ (m : Mark) (rows : List TextRow) (pool : List ℕ) (ts : List (List ℕ
   pub row_text : (k : ℕ) (r : TextRow) → Some r ≡ cond (ltb k m.rows) (entry 4096 rows k) None → Some (text_at pool r) ≡ slice_get ts k
   row_text k r e =
       ap Some (sym (below_mark pool m.bytes r.start r.len (row_inside k r e)) ∙ ap (λ (p : List ℕ). text_at p r) h.bytes_are)
-      ∙ ap (option_map (text_at (joined ts))) (e ∙ found k) ∙ named ts 0 [] refl k
+      ∙ ap (option_map (text_at (concat ts))) (e ∙ found k) ∙ named ts 0 [] refl k
 
   pub row_in_pool : (k : ℕ) (r : TextRow) → Some r ≡ cond (ltb k m.rows) (entry 4096 rows k) None → leb (r.start + r.len) (length pool) ≡ true
-  row_in_pool k r e =
-      let l : r.start + r.len ≤ length pool = omega (arith, row_inside k r e, h.bytes_fit) in
-      grind (arith, nat_tests)
+  row_in_pool k r e = grind (arith, nat_tests, row_inside k r e, h.bytes_fit)
 
   -- one text more, written at the mark, with its row behind the others
   pub pushed : (t : List ℕ) → IsUtf8 t → m.bytes + length t ≤ bytes_room pool → m.rows < rows_room rows → (m' : Mark) (rows' : List TextRow) (pool' : List ℕ)
@@ -80,11 +68,11 @@ module _ (m : Mark) (rows : List TextRow) (pool : List ℕ) (ts : List (List ℕ
             ap (λ (n : ℕ). take n pool') eb ∙ ap (take (m.bytes + length t)) ep
             ∙ take-paste pool m.bytes t (length t) in_pool (le_refl (length t))
             ∙ ap (λ (z : List ℕ). take m.bytes pool ++ z) (take_all (length t) t (le_refl (length t)))
-            ∙ ap (λ (z : List ℕ). z ++ t) h.bytes_are ∙ sym (joined_push ts t);
+            ∙ ap (λ (z : List ℕ). z ++ t) h.bytes_are ∙ sym (concat_push ts t);
         rows_are =
             ap (λ (n : ℕ). take n rows') en ∙ ap (take (m.rows + 1)) er ∙ take_more_set rows m.rows row in_rows
             ∙ ap (λ (z : List TextRow). z ++ row ∷ []) h.rows_are
-            ∙ ap (λ (n : ℕ). rows_from 0 ts ++ record { start = n; len = length t } ∷ []) (sym (zero-add (length (joined ts)) ∙ bytes_used))
+            ∙ ap (λ (n : ℕ). rows_from 0 ts ++ record { start = n; len = length t } ∷ []) (sym (zero-add (length (concat ts)) ∙ bytes_used))
             ∙ sym (rows_from-push 0 ts t);
         bytes_fit = omega (arith, eb, fits, ap length ep, length-paste pool m.bytes t (length t) room (le_refl (length t)));
         rows_fit = omega (arith, en, free, ap length er, length-set rows m.rows row);
@@ -101,10 +89,7 @@ module _ (m : Mark) (rows : List TextRow) (pool : List ℕ) (ts : List (List ℕ
     where
       go : (o : Option TextRow) → o ≡ cond (ltb k m.rows) (entry 4096 rows k) None → text_of pool (below m.bytes o) ≡ slice_get ts k
       go None e = no_row k e
-      go (Some r) e =
-          let l : r.start + r.len ≤ m.bytes = row_inside k r e in
-          let t : leb (r.start + r.len) m.bytes ≡ true = grind (arith, nat_tests) in
-          ap (λ (b : Bool). text_of pool (cond b (Some r) None)) t ∙ row_text k r e
+      go (Some r) e = grind (arith, nat_tests, row_inside k r e, row_text k r e)
 
   -- where nothing below the mark changed, the same texts are held
   pub unmoved : (m' : Mark) (pool' : List ℕ) → m'.bytes ≡ m.bytes → m'.rows ≡ m.rows → take m.bytes pool' ≡ take m.bytes pool → length pool' ≡ length pool → Holds m' rows pool' ts

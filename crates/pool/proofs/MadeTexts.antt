@@ -1,5 +1,5 @@
 -- What making a text means to a pool that holds texts: the pieces are theirs, and they stay or become one more.
-use Rattle.std.proofs.Common.{◌≡◌, ℕ, zero, suc, ◌+◌, ◌<◌, ◌≤◌, Bool, true, false, cond, ◌&&◌, ltb, leb, List, [], ◌∷◌, ◌++◌, length, is_some, Some, None, IsUtf8, Option, Result, unwrap_or, sym, refl, ap, ◌∙◌, subst, arith}
+use Rattle.std.proofs.Common.{◌≡◌, ℕ, zero, suc, ◌+◌, ◌<◌, ◌≤◌, Bool, true, false, cond, ◌&&◌, ltb, leb, List, [], ◌∷◌, ◌++◌, length, is_some, Some, None, IsUtf8, Option, Result, unwrap_or, sym, refl, ◌∙◌, subst, arith}
 use Rattle.pool.proofs.Held.{bytes_used, pushed, rows_used, text_named, unmoved}
 use Rattle.pool.specs.declared.mark.Mark.{Mark}
 use Rattle.pool.specs.declared.piece.Piece.{Piece}
@@ -7,10 +7,10 @@ use Rattle.pool.specs.declared.piece.Piece.TheVariants.{Text, Bytes}
 use Rattle.pool.specs.declared.row.TextRow.{TextRow}
 use Rattle.pool.specs.Made.{Left, MadeOf, Valid, all_here, all_in, answer, joined_in, piece_in, room, room_in, told, whole}
 use Rattle.pool.specs.Pieces.{piece_bytes}
-use Rattle.pool.specs.Texts.{Holds, bytes_room, joined, rows_room}
+use Rattle.pool.specs.Texts.{Holds, bytes_room, rows_room}
 use Rattle.std.proofs.lemmas.Str.{IsUtf8-append, IsUtf8-nil}
 use Rattle.std.proofs.lemmas.Bool.Decides.{nat_tests}
-use Rattle.std.specs.List.{AllByRecursion, slice_get}
+use Rattle.std.specs.List.{AllByRecursion, flat_map, list_all, slice_get}
 use Rattle.table.specs.declared.id.Id.{Id}
 use Rattle.table.specs.declared.id.Texts.{Texts}
 use Rattle.table.specs.declared.refusal.Cause.{Cause}
@@ -33,31 +33,22 @@ module _ (m : Mark) (rows : List TextRow) (pool : List ℕ) (ts : List (List ℕ
   same_piece (Some (Bytes bytes)) = refl
 
   same_all : (ps : List (Option Piece)) → all_here m rows pool ps ≡ all_in ts ps
-  same_all [] = refl
-  same_all (p ∷ ps) =
-      ap (λ (o : Option (List ℕ)). is_some o && all_here m rows pool ps) (same_piece p) ∙ ap (λ (b : Bool). is_some (piece_in ts p) && b) (same_all ps)
+  same_all ps = λ i. list_all (λ p. is_some (same_piece p i)) ps
 
   same_whole : (ps : List (Option Piece)) → whole m rows pool ps ≡ joined_in ts ps
-  same_whole [] = refl
-  same_whole (p ∷ ps) =
-      ap (λ (o : Option (List ℕ)). unwrap_or o [] ++ whole m rows pool ps) (same_piece p) ∙ ap (λ (z : List ℕ). unwrap_or (piece_in ts p) [] ++ z) (same_whole ps)
+  same_whole ps = λ i. flat_map (λ p. unwrap_or (same_piece p i) []) ps
 
   same_room : (ps : List (Option Piece)) → room m rows pool ps ≡ room_in ts rows pool ps
-  same_room ps =
-      ap (λ (w : List ℕ). leb (m.bytes + length w) (bytes_room pool) && ltb m.rows (rows_room rows)) (same_whole ps)
-      ∙ ap (λ (b : ℕ). leb (b + length (joined_in ts ps)) (bytes_room pool) && ltb m.rows (rows_room rows)) (sym (bytes_used m rows pool ts h))
-      ∙ ap (λ (n : ℕ). leb (length (joined ts) + length (joined_in ts ps)) (bytes_room pool) && ltb n (rows_room rows)) (sym (rows_used m rows pool ts h))
+  same_room ps = λ i. leb (sym (bytes_used m rows pool ts h) i + length (same_whole ps i)) (bytes_room pool) && ltb (sym (rows_used m rows pool ts h) i) (rows_room rows)
 
   pub made_of : (ps : List (Option Piece)) → AllByRecursion Valid ps → (r : Result (Option (Id Texts)) Cause) (m' : Mark) (rows' : List TextRow) (pool' : List ℕ)
       → told r ≡ answer (all_here m rows pool ps) (room m rows pool ps) m.rows → Left (all_here m rows pool ps && room m rows pool ps) m rows pool (whole m rows pool ps) m' rows' pool'
       → MadeOf ts rows pool ps r m' rows' pool'
   made_of ps v r m' rows' pool' told_is left =
       record {
-        answers =
-            told_is ∙ ap (λ (b : Bool). answer b (room m rows pool ps) m.rows) (same_all ps) ∙ ap (λ (b : Bool). answer (all_in ts ps) b m.rows) (same_room ps)
-            ∙ ap (answer (all_in ts ps) (room_in ts rows pool ps)) (sym (rows_used m rows pool ts h));
+        answers = told_is ∙ (λ i. answer (same_all ps i) (same_room ps i) (sym (rows_used m rows pool ts h) i));
         holds =
-            subst (λ (b : Bool). Holds m' rows' pool' (cond b (ts ++ joined_in ts ps ∷ []) ts)) (ap (λ (b : Bool). b && room m rows pool ps) (same_all ps) ∙ ap (λ (b : Bool). all_in ts ps && b) (same_room ps))
+            subst (λ (b : Bool). Holds m' rows' pool' (cond b (ts ++ joined_in ts ps ∷ []) ts)) (λ i. same_all ps i && same_room ps i)
             (go (all_here m rows pool ps) (room m rows pool ps) refl left);
       }
     where

@@ -1,10 +1,12 @@
 -- The rows of texts that stand one after another: each names its text, and one text more has its row behind the others.
 use Rattle.std.proofs.Common.{◌≡◌, ℕ, zero, suc, ◌+◌, ◌≤◌, List, [], ◌∷◌, ◌++◌, length, take, drop, Some, sym, refl, ap, ◌∙◌, subst, append_assoc, append-nil, add-zero, add_assoc, arith, length-append}
 use Rattle.pool.specs.declared.row.TextRow.{TextRow}
-use Rattle.pool.specs.Texts.{joined, rows_from, text_at}
+use Rattle.pool.specs.Texts.{rows_from, text_at}
 use Rattle.std.proofs.lemmas.List.{take_at}
 use Rattle.std.specs.Option.{option_map}
-use Rattle.std.specs.List.{slice_get}
+use Rattle.std.proofs.lemmas.List.Folds.{concat-append}
+use Rattle.std.proofs.Math.Seq.{drop-append_seam}
+use Rattle.std.specs.List.{concat, slice_get}
 
 pub length-rows_from : (a : ℕ) (ts : List (List ℕ)) → length (rows_from a ts) ≡ length ts
 length-rows_from a [] = refl
@@ -13,34 +15,32 @@ length-rows_from a (t ∷ ts) = ap suc (length-rows_from (a + length t) ts)
 -- ---- each row names its text: p stands before the texts
 
 between : (p t q : List ℕ) → take (length t) (drop (length p) (p ++ (t ++ q))) ≡ t
-between [] t q = take_at t q (length t) refl
-between (x ∷ p) t q = between p t q
+between p t q = ap (take (length t)) (drop-append_seam p (t ++ q)) ∙ take_at t q (length t) refl
 
-pub named : (ts : List (List ℕ)) (a : ℕ) (p : List ℕ) → length p ≡ a → (k : ℕ) → option_map (text_at (p ++ joined ts)) (slice_get (rows_from a ts) k) ≡ slice_get ts k
+pub named : (ts : List (List ℕ)) (a : ℕ) (p : List ℕ) → length p ≡ a → (k : ℕ) → option_map (text_at (p ++ concat ts)) (slice_get (rows_from a ts) k) ≡ slice_get ts k
 named [] a p e k = refl
-named (t ∷ ts) a p e zero = ap Some (subst (λ (n : ℕ). take (length t) (drop n (p ++ (t ++ joined ts))) ≡ t) e (between p t (joined ts)))
+named (t ∷ ts) a p e zero = ap Some (subst (λ (n : ℕ). take (length t) (drop n (p ++ (t ++ concat ts))) ≡ t) e (between p t (concat ts)))
 named (t ∷ ts) a p e (suc k) =
-    subst (λ (z : List ℕ). option_map (text_at z) (slice_get (rows_from (a + length t) ts) k) ≡ slice_get ts k) (append_assoc p t (joined ts))
+    subst (λ (z : List ℕ). option_map (text_at z) (slice_get (rows_from (a + length t) ts) k) ≡ slice_get ts k) (append_assoc p t (concat ts))
     (named ts (a + length t) (p ++ t) (length-append p t ∙ ap (λ (n : ℕ). n + length t) e) k)
 
 -- and lies among the texts
-pub inside : (ts : List (List ℕ)) (a : ℕ) (k : ℕ) (r : TextRow) → slice_get (rows_from a ts) k ≡ Some r → r.start + r.len ≤ a + length (joined ts)
-inside [] a k r e = let z : ◌≡◌ {A = ℕ} 0 1 = cc in absurd (omega arith)
+pub inside : (ts : List (List ℕ)) (a : ℕ) (k : ℕ) (r : TextRow) → slice_get (rows_from a ts) k ≡ Some r → r.start + r.len ≤ a + length (concat ts)
+inside [] a k r e = grind arith
 inside (t ∷ ts) a zero r e =
     let s : a ≡ r.start = cc in
     let l : length t ≡ r.len = cc in
-    omega (arith, s, l, length-append t (joined ts))
-inside (t ∷ ts) a (suc k) r e = omega (arith, inside ts (a + length t) k r e, length-append t (joined ts))
+    omega (arith, s, l, length-append t (concat ts))
+inside (t ∷ ts) a (suc k) r e = omega (arith, inside ts (a + length t) k r e, length-append t (concat ts))
 
 -- ---- one text more
 
-pub joined_push : (ts : List (List ℕ)) (t : List ℕ) → joined (ts ++ t ∷ []) ≡ joined ts ++ t
-joined_push [] t = append-nil t
-joined_push (u ∷ ts) t = ap (λ (z : List ℕ). u ++ z) (joined_push ts t) ∙ sym (append_assoc u (joined ts) t)
+pub concat_push : (ts : List (List ℕ)) (t : List ℕ) → concat (ts ++ t ∷ []) ≡ concat ts ++ t
+concat_push ts t = concat-append ts (t ∷ []) ∙ ap (λ (z : List ℕ). concat ts ++ z) (append-nil t)
 
-pub rows_from-push : (a : ℕ) (ts : List (List ℕ)) (t : List ℕ) → rows_from a (ts ++ t ∷ []) ≡ rows_from a ts ++ record { start = a + length (joined ts); len = length t } ∷ []
+pub rows_from-push : (a : ℕ) (ts : List (List ℕ)) (t : List ℕ) → rows_from a (ts ++ t ∷ []) ≡ rows_from a ts ++ record { start = a + length (concat ts); len = length t } ∷ []
 rows_from-push a [] t = ap (λ (n : ℕ). record { start = n; len = length t } ∷ []) (sym (add-zero a))
 rows_from-push a (u ∷ ts) t =
     ap (λ (z : List TextRow). record { start = a; len = length u } ∷ z)
     (rows_from-push (a + length u) ts t
-    ∙ ap (λ (n : ℕ). rows_from (a + length u) ts ++ record { start = n; len = length t } ∷ []) (add_assoc a (length u) (length (joined ts)) ∙ ap (λ (n : ℕ). a + n) (sym (length-append u (joined ts)))))
+    ∙ ap (λ (n : ℕ). rows_from (a + length u) ts ++ record { start = n; len = length t } ∷ []) (add_assoc a (length u) (length (concat ts)) ∙ ap (λ (n : ℕ). a + n) (sym (length-append u (concat ts)))))

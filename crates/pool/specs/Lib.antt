@@ -1,4 +1,6 @@
 pub mod Adding
 pub mod Made
+pub mod Makings
+pub mod Memory
 pub mod Pieces
 pub mod Texts

@@ -5,10 +5,10 @@ use Rattle.pool.specs.declared.piece.Piece.{Piece}
 use Rattle.pool.specs.declared.piece.Piece.TheVariants.{Text, Bytes}
 use Rattle.pool.specs.declared.row.TextRow.{TextRow}
 use Rattle.pool.specs.Pieces.{gathered, present}
-use Rattle.pool.specs.Texts.{Holds, bytes_room, joined, rows_room}
+use Rattle.pool.specs.Texts.{Holds, bytes_room, rows_room}
 use Rattle.std.specs.Option.{option_map, unwrap_or}
 use Rattle.std.proofs.Math.Seq.{paste}
-use Rattle.std.specs.List.{slice_get}
+use Rattle.std.specs.List.{concat, flat_map, list_all, slice_get}
 use Rattle.table.specs.declared.id.Id.{Id}
 use Rattle.table.specs.declared.id.Texts.{Texts}
 use Rattle.table.specs.declared.refusal.Cause.{Cause}
@@ -50,12 +50,10 @@ piece_in ts (Some (Text id)) = slice_get ts id.number
 piece_in ts (Some (Bytes bytes)) = Some bytes.now
 
 abbrev pub all_in : List (List ℕ) → List (Option Piece) → Bool
-all_in ts [] = true
-all_in ts (p ∷ ps) = is_some (piece_in ts p) && all_in ts ps
+all_in ts ps = list_all (λ p. is_some (piece_in ts p)) ps
 
 abbrev pub joined_in : List (List ℕ) → List (Option Piece) → List ℕ
-joined_in ts [] = []
-joined_in ts (p ∷ ps) = unwrap_or (piece_in ts p) [] ++ joined_in ts ps
+joined_in ts ps = flat_map (λ p. unwrap_or (piece_in ts p) []) ps
 
 -- bytes that are handed in are UTF-8
 abbrev pub Valid : Option Piece → Type 0
@@ -64,7 +62,7 @@ Valid (Some (Text id)) = Unit {0}
 Valid (Some (Bytes bytes)) = IsUtf8 bytes.now
 
 abbrev pub room_in : List (List ℕ) → List TextRow → List ℕ → List (Option Piece) → Bool
-room_in ts rows pool ps = nat_le (length (joined ts) + length (joined_in ts ps)) (bytes_room pool) && nat_lt (length ts) (rows_room rows)
+room_in ts rows pool ps = nat_le (length (concat ts) + length (joined_in ts ps)) (bytes_room pool) && nat_lt (length ts) (rows_room rows)
 
 pub record MadeOf (ts : List (List ℕ)) (rows : List TextRow) (pool : List ℕ) (ps : List (Option Piece)) (r : Result (Option (Id Texts)) Cause) (m' : Mark) (rows' : List TextRow) (pool' : List ℕ) : Type 0 where
   pub answers : told r ≡ answer (all_in ts ps) (room_in ts rows pool ps) (length ts)

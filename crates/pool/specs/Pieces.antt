@@ -1,9 +1,10 @@
 -- The pieces that a text is made of, where n rows are in use and the texts end at b.
-use Rattle.std.specs.Prelude.{◌≡◌, ℕ, ◌+◌, Bool, true, cond, ◌&&◌, List, [], ◌∷◌, ◌++◌, length, take, is_some, Some, None, Option, nat_le, nat_lt}
+use Rattle.std.specs.Prelude.{◌≡◌, ℕ, ◌+◌, Bool, true, cond, List, [], length, take, is_some, Some, None, Option, nat_le, nat_lt}
 use Rattle.pool.specs.declared.piece.Piece.{Piece}
 use Rattle.pool.specs.declared.piece.Piece.TheVariants.{Text, Bytes}
 use Rattle.pool.specs.declared.row.TextRow.{TextRow}
 use Rattle.pool.specs.Texts.{bytes_room, text_at}
+use Rattle.std.specs.List.{flat_map, list_all}
 use Rattle.std.specs.Option.{unwrap_or}
 use Rattle.std.proofs.Math.Seq.{paste}
 use Rattle.table.specs.Tables.{entry}
@@ -28,12 +29,10 @@ piece_bytes n b rows pool (Some (Bytes bytes)) = Some bytes.now
 
 -- whether all pieces are present, and their bytes one after another
 abbrev pub present : ℕ → ℕ → List TextRow → List ℕ → List (Option Piece) → Bool
-present n b rows pool [] = true
-present n b rows pool (p ∷ ps) = is_some (piece_bytes n b rows pool p) && present n b rows pool ps
+present n b rows pool ps = list_all (λ p. is_some (piece_bytes n b rows pool p)) ps
 
 abbrev pub gathered : ℕ → ℕ → List TextRow → List ℕ → List (Option Piece) → List ℕ
-gathered n b rows pool [] = []
-gathered n b rows pool (p ∷ ps) = unwrap_or (piece_bytes n b rows pool p) [] ++ gathered n b rows pool ps
+gathered n b rows pool ps = flat_map (λ p. unwrap_or (piece_bytes n b rows pool p) []) ps
 
 -- A piece is pushed at the mark b, if it is present and fits: what is answered, and the mark and the pool then.
 abbrev pub Pushed : Option (List ℕ) → ℕ → List ℕ → Option (Unit {0}) → ℕ → List ℕ → Type 0

@@ -3,13 +3,14 @@
 mod make;
 mod making;
 mod mark;
+mod memory;
 mod piece;
 mod row;
 mod texts;
 
-pub use make::make_text;
 pub use making::{Making, capacity};
 pub use mark::Mark;
+pub use memory::Pool;
 pub use piece::Piece;
 pub use row::TextRow;
-pub use texts::{add_text, text_bytes, text_row};
+pub use texts::{text_bytes, text_row};

@@ -15,13 +15,10 @@ const LIMIT: usize = 65536;
 pub fn capacity(pool: &[u8]) -> usize
     ensures { result ≡ bytes_room pool.now }
 {
-    if LIMIT < pool.len() {
-        LIMIT
-    } else {
-        pool.len()
-    }
+    pool.len().min(LIMIT)
 }
 
+#[tactic(auto, using(std::proofs::lemmas::Slice::overwrites))]
 fn overwrite(pool: &mut [u8], at: usize, piece: &[u8])
     requires { at + length piece.now ≤ length pool.old }
     ensures { pool.new ≡ paste pool.old at piece.now (length piece.now) }
@@ -34,17 +31,18 @@ fn repeat(pool: &mut [u8], from: usize, len: usize, at: usize)
     requires { (from + len ≤ at) × (at + len ≤ length pool.old) }
     ensures { pool.new ≡ paste pool.old at (take len (drop from pool.old)) len }
 {
-    for i in 0..len {
-        pool[at + i] = pool[from + i];
-    }
+    pool.copy_within(from..from + len, at);
 }
 
 // A text that is being put together at the end of the used bytes. The mark rises with its bytes, and
 // goes back when this is dropped, unless the finished text was kept.
+// Bytes and rows are passed beside it, since it guards the mark alone: what lies past the mark need not be restored.
 pub struct Making<'m> {
     mark: &'m mut Mark,
     start: u32,
+    // not an Option of the start, which is asked for after the text is kept too
     kept: bool,
+    ghost begun: { start ≤ mark.now.bytes },
 }
 
 impl Drop for Making<'_> {
@@ -52,18 +50,16 @@ impl Drop for Making<'_> {
         ensures bytes { self.exit.0.now.bytes ≡ (if self.entry.kept then self.entry.mark.now.bytes else self.entry.start) }
         ensures rows { self.exit.0.now.rows ≡ self.entry.mark.now.rows }
     {
-        if !self.kept {
-            self.mark.bytes = self.start;
+        let Making { mark, start, kept } = self;
+        if !kept {
+            mark.bytes = start;
         }
-        let Making {
-            mark: _,
-            start: _,
-            kept: _,
-        } = self;
     }
 }
 
 impl<'m> Making<'m> {
+    ghost use Rattle.pool.specs.Makings.{OnlyBytes};
+
     pub fn begin(mark: &'m mut Mark) -> Self
         ensures lent { result.mark.ghost_name ≡ mark.entry.ghost_name }
         ensures mark { result.mark.now ≡ mark.old }
@@ -80,10 +76,7 @@ impl<'m> Making<'m> {
 
     // Adds bytes; nothing is done where they do not fit.
     pub fn push(&mut self, pool: &mut [u8], piece: &[u8]) -> Option<()>
-        ensures lent { self.new.mark.ghost_name ≡ self.old.mark.ghost_name }
-        ensures start { self.new.start ≡ self.old.start }
-        ensures kept { self.new.kept ≡ self.old.kept }
-        ensures rows { self.new.mark.now.rows ≡ self.old.mark.now.rows }
+        ensures unchanged { OnlyBytes self.old self.new }
         ensures test { is_some result ≡ nat_le (self.old.mark.now.bytes + length piece.now) (bytes_room pool.old) }
         ensures bytes { self.new.mark.now.bytes ≡ (if is_some result then self.old.mark.now.bytes + length piece.now else self.old.mark.now.bytes) }
         ensures pool { pool.new ≡ (if is_some result then paste pool.old self.old.mark.now.bytes piece.now (length piece.now) else pool.old) }
@@ -101,10 +94,7 @@ impl<'m> Making<'m> {
     // Adds a part of the pool; nothing is done where it is not below the text that is made, or does
     // not fit.
     pub fn push_part(&mut self, pool: &mut [u8], part: TextRow) -> Option<()>
-        ensures lent { self.new.mark.ghost_name ≡ self.old.mark.ghost_name }
-        ensures start { self.new.start ≡ self.old.start }
-        ensures kept { self.new.kept ≡ self.old.kept }
-        ensures rows { self.new.mark.now.rows ≡ self.old.mark.now.rows }
+        ensures unchanged { OnlyBytes self.old self.new }
         ensures test { is_some result ≡ (nat_le (part.start + part.len) self.old.start && (nat_le self.old.start self.old.mark.now.bytes && nat_le (self.old.mark.now.bytes + part.len) (bytes_room pool.old))) }
         ensures bytes { self.new.mark.now.bytes ≡ (if is_some result then self.old.mark.now.bytes + part.len else self.old.mark.now.bytes) }
         ensures pool { pool.new ≡ (if is_some result then paste pool.old self.old.mark.now.bytes (take part.len (drop part.start pool.old)) part.len else pool.old) }

@@ -3,7 +3,7 @@ ghost use Rattle.pool.specs.Texts.{Holds};
 ghost use Rattle.pool.specs.declared.row.TextRow.{TextRow};
 
 // How much of a pool is used: its bytes, and its rows.
-#[derive(Clone, Copy)]
+#[derive(Clone, Copy, PartialEq, Eq, Debug)]
 pub struct Mark {
     pub bytes: u32,
     pub rows: u32,

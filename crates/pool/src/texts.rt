@@ -1,5 +1,6 @@
 // Texts by their numbers.
 ghost use Rattle.pool.specs.Adding.{Added};
+ghost use Rattle.pool.specs.Memory.{SameMemory};
 ghost use Rattle.pool.specs.Texts.{Holds, bytes_room, rows_room, text_at};
 ghost use Rattle.std.specs.Prelude.{◌≡◌, ℕ, ◌+◌, true, false, ◌&&◌, nat_lt, nat_le, List, [], ◌∷◌, ◌++◌, length, set, is_some, is_ok, if◌then◌else◌, Some, None};
 ghost use Rattle.std.specs.Option.{option_map};
@@ -9,11 +10,12 @@ ghost use Rattle.table.specs.Tables.{entry};
 
 use crate::making::Making;
 use crate::mark::Mark;
+use crate::memory::Pool;
 use crate::row::TextRow;
 use table::{Cause, Layer, Refusal, Site, TextId, Texts, capacity, read};
 use text::is_utf8;
 
-// The row of a text, if the number names one.
+// The row of a text, if the number names one. This and `text_bytes` read shared slices, of which no Pool can be made.
 pub fn text_row(mark: &Mark, rows: &[TextRow], id: TextId) -> Option<TextRow>
     ensures { result ≡ (if nat_lt id.number mark.now.rows then entry 4096 rows.now id.number else None) }
 {
@@ -29,21 +31,16 @@ fn part(pool: &[u8], row: TextRow) -> Option<&[u8]>
     ensures { option_map (λ t. t.now) result ≡ (if nat_le (row.start + row.len) (length pool.now) then Some (text_at pool.now row) else None) }
 {
     let start = row.start as usize;
-    let end = start + row.len as usize;
-    if end > pool.len() {
-        return None;
-    }
-    Some(&pool[start..end])
+    pool.get(start..start + row.len as usize)
 }
 
 // The bytes of a text, if the number names one.
+#[tactic(auto, using(crate::proofs::Held::no_row, crate::proofs::Held::row_in_pool, crate::proofs::Held::row_text))]
 pub fn text_bytes<'p>(mark: &Mark, pool: &'p [u8], rows: &[TextRow], id: TextId) -> Option<&'p [u8]>
     ensures { (ts : List (List ℕ)) → Holds mark.now rows.now pool.now ts → option_map (λ t. t.now) result ≡ slice_get ts id.number }
 {
-    match text_row(mark, rows, id) {
-        Some(row) => part(pool, row),
-        None => None,
-    }
+    let row = text_row(mark, rows, id)?;
+    part(pool, row)
 }
 
 fn refused(cause: Cause, number: u32) -> Refusal
@@ -56,41 +53,45 @@ fn refused(cause: Cause, number: u32) -> Refusal
     }
 }
 
-// Puts a text behind the others, if there is room for it. Without room the bytes past the mark may have
-// changed, and nothing else.
-fn append(mark: &mut Mark, pool: &mut [u8], rows: &mut [TextRow], text: &[u8]) -> Option<TextId>
-    ensures test { is_some result ≡ (nat_le (mark.old.bytes + length text.now) (bytes_room pool.old) && nat_lt mark.old.rows (rows_room rows.old)) }
-    ensures value { option_map (λ i. i.number) result ≡ (if is_some result then Some mark.old.rows else None) }
-    ensures bytes { mark.new.bytes ≡ (if is_some result then mark.old.bytes + length text.now else mark.old.bytes) }
-    ensures count { mark.new.rows ≡ (if is_some result then mark.old.rows + 1 else mark.old.rows) }
-    ensures rows { rows.new ≡ (if is_some result then set rows.old mark.old.rows (record { start = mark.old.bytes; len = length text.now }) else rows.old) }
-    ensures pool { pool.new ≡ (if nat_le (mark.old.bytes + length text.now) (bytes_room pool.old) then paste pool.old mark.old.bytes text.now (length text.now) else pool.old) }
-{
-    let mut making = Making::begin(mark);
-    making.push(pool, text)?;
-    making.keep(rows)
-}
+impl Pool<'_> {
+    // Whether no row is free.
+    fn is_full(&self) -> bool
+        ensures { result ≡ nat_le (rows_room self.now.rows.now) self.now.mark.now.rows }
+    {
+        self.mark.rows as usize >= capacity::<Texts, TextRow>(self.rows)
+    }
 
-// Adds a text behind the others.
-pub fn add_text(
-    mark: &mut Mark,
-    pool: &mut [u8],
-    rows: &mut [TextRow],
-    text: &[u8],
-) -> Result<TextId, Refusal>
-    ensures answer { Added mark.old.rows (rows_room rows.old) mark.old.bytes (bytes_room pool.old) text.now result }
-    ensures unchanged { is_ok result ≡ false → (mark.new ≡ mark.old) × (rows.new ≡ rows.old) × (pool.new ≡ pool.old) }
-    ensures held { (ts : List (List ℕ)) → Holds mark.old rows.old pool.old ts → is_ok result ≡ true → Holds mark.new rows.new pool.new (ts ++ text.now ∷ []) }
-{
-    let number = mark.rows;
-    if number as usize >= capacity::<Texts, TextRow>(rows) {
-        return Err(refused(Cause::TableFull, number));
+    // Puts a text behind the others, if there is room for it. Without room the bytes past the mark may
+    // have changed, and nothing else.
+    fn append(&mut self, text: &[u8]) -> Option<TextId>
+        ensures lent { SameMemory self.old self.new }
+        ensures test { is_some result ≡ (nat_le (self.old.mark.now.bytes + length text.now) (bytes_room self.old.bytes.now) && nat_lt self.old.mark.now.rows (rows_room self.old.rows.now)) }
+        ensures value { option_map (λ i. i.number) result ≡ (if is_some result then Some self.old.mark.now.rows else None) }
+        ensures bytes { self.new.mark.now.bytes ≡ (if is_some result then self.old.mark.now.bytes + length text.now else self.old.mark.now.bytes) }
+        ensures count { self.new.mark.now.rows ≡ (if is_some result then self.old.mark.now.rows + 1 else self.old.mark.now.rows) }
+        ensures rows { self.new.rows.now ≡ (if is_some result then set self.old.rows.now self.old.mark.now.rows (record { start = self.old.mark.now.bytes; len = length text.now }) else self.old.rows.now) }
+        ensures pool { self.new.bytes.now ≡ (if nat_le (self.old.mark.now.bytes + length text.now) (bytes_room self.old.bytes.now) then paste self.old.bytes.now self.old.mark.now.bytes text.now (length text.now) else self.old.bytes.now) }
+    {
+        let mut making = Making::begin(self.mark);
+        making.push(self.bytes, text)?;
+        making.keep(self.rows)
     }
-    if !is_utf8(text) {
-        return Err(refused(Cause::NotUtf8, number));
-    }
-    match append(mark, pool, rows, text) {
-        Some(id) => Ok(id),
-        None => Err(refused(Cause::TextDoesNotFit, number)),
+
+    // Adds a text behind the others.
+    pub fn add_text(&mut self, text: &[u8]) -> Result<TextId, Refusal>
+        ensures lent { SameMemory self.old self.new }
+        ensures answer { Added self.old.mark.now.rows (rows_room self.old.rows.now) self.old.mark.now.bytes (bytes_room self.old.bytes.now) text.now result }
+        ensures unchanged { is_ok result ≡ false → (self.new.mark.now ≡ self.old.mark.now) × (self.new.rows.now ≡ self.old.rows.now) × (self.new.bytes.now ≡ self.old.bytes.now) }
+        ensures held { (ts : List (List ℕ)) → Holds self.old.mark.now self.old.rows.now self.old.bytes.now ts → is_ok result ≡ true → Holds self.new.mark.now self.new.rows.now self.new.bytes.now (ts ++ text.now ∷ []) }
+    {
+        let number = self.mark.rows;
+        if self.is_full() {
+            return Err(refused(Cause::TableFull, number));
+        }
+        if !is_utf8(text) {
+            return Err(refused(Cause::NotUtf8, number));
+        }
+        self.append(text)
+            .ok_or(refused(Cause::TextDoesNotFit, number))
     }
 }

@@ -4,17 +4,14 @@ use std::marker::PhantomData;
 
 // A kind of number, with how many numbers of it there may be. They count from 0.
 pub trait IdKind {
-    // LIMIT for clauses, which cannot name an associated constant; `most` ties the two
-    ghost limit: { ℕ };
+    // the constant as clauses name it: the check proves the two equal
+    ghost LIMIT: { ℕ };
 
     const LIMIT: u32;
-
-    fn most() -> u32
-        ensures { result ≡ limit };
 }
 
 // A number of the kind K.
-#[derive_where(Clone, Copy)]
+#[derive_where(Clone, Copy, PartialEq, Eq, Debug)]
 pub struct Id<K> {
     number: u32,
     kind: PhantomData<K>,
@@ -58,51 +55,31 @@ pub type PhiId = Id<Phis>;
 pub type TextId = Id<Texts>;
 
 impl IdKind for Blocks {
-    ghost limit = { 1024 };
+    ghost LIMIT = { 1024 };
 
     const LIMIT: u32 = 1024;
-
-    fn most() -> u32 {
-        Self::LIMIT
-    }
 }
 
 impl IdKind for Identifiers {
-    ghost limit = { 4096 };
+    ghost LIMIT = { 4096 };
 
     const LIMIT: u32 = 4096;
-
-    fn most() -> u32 {
-        Self::LIMIT
-    }
 }
 
 impl IdKind for Instructions {
-    ghost limit = { 8192 };
+    ghost LIMIT = { 8192 };
 
     const LIMIT: u32 = 8192;
-
-    fn most() -> u32 {
-        Self::LIMIT
-    }
 }
 
 impl IdKind for Phis {
-    ghost limit = { 2048 };
+    ghost LIMIT = { 2048 };
 
     const LIMIT: u32 = 2048;
-
-    fn most() -> u32 {
-        Self::LIMIT
-    }
 }
 
 impl IdKind for Texts {
-    ghost limit = { 4096 };
+    ghost LIMIT = { 4096 };
 
     const LIMIT: u32 = 4096;
-
-    fn most() -> u32 {
-        Self::LIMIT
-    }
 }

@@ -6,32 +6,23 @@ use std::marker::PhantomData;
 
 // How many numbers of the kind K name an entry of the slice.
 pub fn capacity<K: IdKind, T>(entries: &[T]) -> usize
-    ensures { result ≡ room K.IdKind.limit entries.now }
+    ensures { result ≡ room K.LIMIT entries.now }
 {
-    let most = K::most() as usize;
-    if most < entries.len() {
-        most
-    } else {
-        entries.len()
-    }
+    entries.len().min(K::LIMIT as usize)
 }
 
 // The entry of a number.
 pub fn read<K: IdKind, T: Copy>(entries: &[T], id: Id<K>) -> Option<T>
-    ensures { result ≡ entry K.IdKind.limit entries.now id.number }
+    ensures { result ≡ entry K.LIMIT entries.now id.number }
 {
-    let number = id.number() as usize;
-    if number < capacity::<K, T>(entries) {
-        Some(entries[number])
-    } else {
-        None
-    }
+    let numbered = &entries[..capacity::<K, T>(entries)];
+    numbered.get(id.number() as usize).copied()
 }
 
-// Writes the entry of a number; false where it names none.
+// Writes the entry of a number; false where it names none. The bool is the whole answer, as a set's insert gives.
 pub fn write<K: IdKind, T: Drop>(entries: &mut [T], id: Id<K>, value: T) -> bool
-    ensures test { result ≡ nat_lt id.number (room K.IdKind.limit entries.old) }
-    ensures after { entries.new ≡ written K.IdKind.limit entries.old id.number value }
+    ensures test { result ≡ nat_lt id.number (room K.LIMIT entries.old) }
+    ensures after { entries.new ≡ written K.LIMIT entries.old id.number value }
 {
     let number = id.number() as usize;
     let named = number < capacity::<K, T>(entries);
@@ -60,7 +51,7 @@ impl<'a, K: IdKind, T> Table<'a, K, T> {
     }
 
     pub fn capacity(&self) -> usize
-        ensures { result ≡ room K.IdKind.limit self.now.entries.now }
+        ensures { result ≡ room K.LIMIT self.now.entries.now }
     {
         capacity::<K, T>(self.entries)
     }
@@ -68,7 +59,7 @@ impl<'a, K: IdKind, T> Table<'a, K, T> {
     pub fn get(&self, id: Id<K>) -> Option<T>
     where
         T: Copy,
-        ensures { result ≡ entry K.IdKind.limit self.now.entries.now id.number }
+        ensures { result ≡ entry K.LIMIT self.now.entries.now id.number }
     {
         read(self.entries, id)
     }
@@ -76,8 +67,8 @@ impl<'a, K: IdKind, T> Table<'a, K, T> {
     pub fn set(&mut self, id: Id<K>, value: T) -> bool
     where
         T: Drop,
-        ensures test { result ≡ nat_lt id.number (room K.IdKind.limit self.old.entries.now) }
-        ensures after { self.new.entries.now ≡ written K.IdKind.limit self.old.entries.now id.number value }
+        ensures test { result ≡ nat_lt id.number (room K.LIMIT self.old.entries.now) }
+        ensures after { self.new.entries.now ≡ written K.LIMIT self.old.entries.now id.number value }
         ensures lent { self.new.entries.ghost_name ≡ self.old.entries.ghost_name }
     {
         write(self.entries, id, value)

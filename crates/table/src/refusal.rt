@@ -4,16 +4,16 @@ ghost use Rattle.std.specs.Prelude.{◌≡◌};
 // Why something is refused: the rows of the table in docs/REFUSALS.md, in their order.
 #[derive(Clone, Copy, PartialEq, Eq, Debug)]
 pub enum Cause {
-    TableFull,
-    NotUtf8,
-    TextDoesNotFit,
-    NamesNothing,
-    KindNotTaken,
-    NoTerminal,
-    AssignedTwice,
-    PhiOperands,
-    EdgeBack,
-    UseBeforeDefinition,
+    TableFull = 1,
+    NotUtf8 = 2,
+    TextDoesNotFit = 3,
+    NamesNothing = 4,
+    KindNotTaken = 5,
+    NoTerminal = 6,
+    AssignedTwice = 7,
+    PhiOperands = 8,
+    EdgeBack = 9,
+    UseBeforeDefinition = 10,
 }
 
 // The stage that refuses.
@@ -53,17 +53,6 @@ impl Cause {
     pub fn number(self) -> u8
         ensures { result ≡ number_of self }
     {
-        match self {
-            Cause::TableFull => 1,
-            Cause::NotUtf8 => 2,
-            Cause::TextDoesNotFit => 3,
-            Cause::NamesNothing => 4,
-            Cause::KindNotTaken => 5,
-            Cause::NoTerminal => 6,
-            Cause::AssignedTwice => 7,
-            Cause::PhiOperands => 8,
-            Cause::EdgeBack => 9,
-            Cause::UseBeforeDefinition => 10,
-        }
+        self as u8
     }
 }

@@ -1,5 +1,6 @@
 ghost use Rattle.std.specs.Prelude.{◌≡◌, ℕ, ◌≤◌, false, ◌&&◌, List, is_some, if◌then◌else◌};
 ghost use Rattle.pool.specs.Made.{Left, all_here, answer, room, told, whole};
+ghost use Rattle.pool.specs.Makings.{OnlyBytes};
 ghost use Rattle.pool.specs.Pieces.{Gathered, Pushed, piece_bytes, present, row_of, text_of};
 ghost use Rattle.pool.specs.Texts.{bytes_room};
 
@@ -15,6 +16,7 @@ impl Making<'_> {
         ensures { result ≡ row_of self.now.mark.now.rows self.now.start rows.now id.number }
     {
         let row = text_row(self.mark, rows, id)?;
+        // not a filter, which is as long, and whose closure the proof would have to unfold
         if row.start as u64 + row.len as u64 <= self.start as u64 {
             Some(row)
         } else {
@@ -23,12 +25,9 @@ impl Making<'_> {
     }
 
     // Adds a text of the pool; nothing is done where there is none, or where it does not fit.
+    #[tactic(auto, using(crate::proofs::Pushes::below_inside, crate::proofs::Pushes::part_pushed))]
     fn push_text(&mut self, pool: &mut [u8], rows: &[TextRow], id: TextId) -> Option<()>
-        requires { self.old.start ≤ self.old.mark.now.bytes }
-        ensures lent { self.new.mark.ghost_name ≡ self.old.mark.ghost_name }
-        ensures start { self.new.start ≡ self.old.start }
-        ensures kept { self.new.kept ≡ self.old.kept }
-        ensures rows { self.new.mark.now.rows ≡ self.old.mark.now.rows }
+        ensures unchanged { OnlyBytes self.old self.new }
         ensures pushed { Pushed (text_of pool.old (row_of self.old.mark.now.rows self.old.start rows.now id.number)) self.old.mark.now.bytes pool.old result self.new.mark.now.bytes pool.new }
     {
         let row = self.row(rows, id)?;
@@ -37,11 +36,7 @@ impl Making<'_> {
 
     // Adds a piece; nothing is done where it is missing, or does not fit.
     fn push_piece(&mut self, pool: &mut [u8], rows: &[TextRow], piece: Option<Piece>) -> Option<()>
-        requires { self.old.start ≤ self.old.mark.now.bytes }
-        ensures lent { self.new.mark.ghost_name ≡ self.old.mark.ghost_name }
-        ensures start { self.new.start ≡ self.old.start }
-        ensures kept { self.new.kept ≡ self.old.kept }
-        ensures rows { self.new.mark.now.rows ≡ self.old.mark.now.rows }
+        ensures unchanged { OnlyBytes self.old self.new }
         ensures pushed { Pushed (piece_bytes self.old.mark.now.rows self.old.start rows.now pool.old piece.entry) self.old.mark.now.bytes pool.old result self.new.mark.now.bytes pool.new }
     {
         match piece {
@@ -65,15 +60,11 @@ impl Making<'_> {
     pub fn has_all(&self, rows: &[TextRow], pieces: &[Option<Piece>]) -> bool
         ensures { (pool : List ℕ) → result ≡ present self.now.mark.now.rows self.now.start rows.now pool pieces.now }
     {
-        for piece in pieces {
-            if !self.has(rows, *piece) {
-                return false;
-            }
-        }
-        true
+        pieces.iter().all(|piece| self.has(rows, *piece))
     }
 
     // Adds all pieces, up to the first that is missing or does not fit.
+    #[tactic(auto, using(crate::proofs::Gathering::none_yet, crate::proofs::Gathering::finished, crate::proofs::Gathering::only_bytes_trans))]
     fn push_all(
         &mut self,
         pool: &mut [u8],
@@ -81,10 +72,7 @@ impl Making<'_> {
         pieces: &[Option<Piece>],
     ) -> Option<()>
         requires { (self.old.start ≡ self.old.mark.now.bytes) × (self.old.start ≤ bytes_room pool.old) }
-        ensures lent { self.new.mark.ghost_name ≡ self.old.mark.ghost_name }
-        ensures start { self.new.start ≡ self.old.start }
-        ensures kept { self.new.kept ≡ self.old.kept }
-        ensures rows { self.new.mark.now.rows ≡ self.old.mark.now.rows }
+        ensures unchanged { OnlyBytes self.old self.new }
         ensures gathered { Gathered self.old.mark.now.rows self.old.start rows.now pool.old pieces.now result self.new.mark.now.bytes pool.new }
     {
         for piece in pieces {
@@ -113,9 +101,6 @@ impl Making<'_> {
         if self.start as usize > capacity(pool) || self.push_all(pool, rows, pieces).is_none() {
             return Err(Cause::TextDoesNotFit);
         }
-        match self.keep(rows) {
-            Some(id) => Ok(Some(id)),
-            None => Err(Cause::TextDoesNotFit),
-        }
+        self.keep(rows).map(Some).ok_or(Cause::TextDoesNotFit)
     }
 }

@@ -1,23 +1,12 @@
-use Rattle.std.proofs.Common.{◌+◌, Bool, ◌&&◌, drop, None, sym, ap, ◌∙◌}
+-- Every piece is present, as `has` says of each.
+use Rattle.std.proofs.Common.{rules, tests, Option, is_some}
 use Rattle.pool.proofs.making.Making.has_all.Goals as goal
-use Rattle.pool.specs.Pieces.{present}
-use Rattle.std.proofs.lemmas.List.{at_drop_all, at_drop_more}
-
-pub returns-then-not-has : goal.returns-then-not-has
-returns-then-not-has c pool =
-    let F = present c.args.self.now.mark.now.rows c.args.self.now.start c.args.rows.now pool in
-    let ps = c.args.pieces.now in
-    let i = c.loop-piece.piece-index in
-    sym (c.loop-piece.invariant pool ∙ at_drop_more F ps i None c.loop-piece-test.true ∙ ap (λ (b : Bool). b && F (drop (i + 1) ps)) (sym (c.if-not-has.ensures pool)))
-
-pub loop-piece-preserved : goal.loop-piece-preserved
-loop-piece-preserved c pool =
-    let F = present c.args.self.now.mark.now.rows c.args.self.now.start c.args.rows.now pool in
-    let ps = c.args.pieces.now in
-    let i = c.loop-piece.piece-index in
-    c.loop-piece.invariant pool ∙ at_drop_more F ps i None c.loop-piece-test.true ∙ ap (λ (b : Bool). b && F (drop (i + 1) ps)) (sym (c.if-not-has.ensures pool))
+use Rattle.pool.specs.declared.piece.Piece.{Piece}
+use Rattle.pool.specs.Pieces.{piece_bytes}
+use Rattle.std.proofs.lemmas.Iterator.{YieldsList-from_slice}
+use Rattle.std.proofs.lemmas.Iterator.Search.{all_from_yields_List}
 
 pub returns : goal.returns
 returns c pool =
-    let F = present c.args.self.now.mark.now.rows c.args.self.now.start c.args.rows.now pool in
-    sym (c.loop-piece.invariant pool ∙ at_drop_all F c.args.pieces.now c.loop-piece.piece-index c.loop-piece-test.false)
+    all_from_yields_List (λ (p : Option Piece). is_some (piece_bytes c.args.self.now.mark.now.rows c.args.self.now.start c.args.rows.now pool p)) _ _ _ c.all.ensures.ran
+    (YieldsList-from_slice c.args.pieces.now cc) (λ x b q k. search (rules, tests))
