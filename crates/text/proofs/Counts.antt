@@ -18,5 +18,5 @@ units_encodes : (cs : List ℕ) → units (encodes cs) ≡ units_of_chars cs
 units_encodes [] = refl
 units_encodes (c ∷ cs) = join_adds (encode c) (encodes cs) ∙ (λ k. units_encode c k + units_encodes cs k)
 
-pub units-text : (bs : List ℕ) → IsUtf8 bs → units bs ≡ units_of_chars (chars bs)
-units-text bs u = ap units (sym (encodes-chars bs u)) ∙ units_encodes (chars bs)
+pub units_text : (bs : List ℕ) → IsUtf8 bs → units bs ≡ units_of_chars (chars bs)
+units_text bs u = ap units (sym (encodes-chars bs u)) ∙ units_encodes (chars bs)

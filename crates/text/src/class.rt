@@ -8,7 +8,7 @@ use ByteClass::{
     NameStart as Na, Never as No,
 };
 
-#[derive(Clone, Copy)]
+#[derive(Clone, Copy, PartialEq, Eq, Debug)]
 pub enum ByteClass {
     Digit,
     NameStart,
