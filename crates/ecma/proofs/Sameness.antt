@@ -12,7 +12,7 @@ use Rattle.ecma.specs.Value.{number, string, value_of}
 abbrev Same : PrimitiveValue → PrimitiveValue → Type 0
 Same x y = (ghosts.eq x y ≡ same_value (value_of x) (value_of y)) × Decides (ghosts.eq x y) (value_of x ≡ value_of y)
 
-pub same : (x y : PrimitiveValue) → Same x y
+same : (x y : PrimitiveValue) → Same x y
 same Null Null = (refl, (λ h. refl, λ e. refl))
 same Null Undefined = (refl, (λ h. cc, λ e. cc))
 same Null (Boolean b) = (refl, (λ h. cc, λ e. cc))
@@ -43,3 +43,14 @@ same (String s) (Number w) = (refl, (λ h. cc, λ e. cc))
 same (String s) (String t) =
     let d = slice_eq-Decides Decides-eqb s.now t.now (ghosts.eq (String s) (String t)) refl in
     (same_from_decides _ _ d (bytes_eq-Decides s.now t.now), Decides-like (ghosts.eq (String s) (String t)) (ap string) (λ e. cc) d)
+
+pub same_is : (x y : PrimitiveValue) → ghosts.eq x y ≡ same_value (value_of x) (value_of y)
+same_is x y = (same x y).0
+
+pub same_then_one : (x y : PrimitiveValue) → ghosts.eq x y ≡ true → value_of x ≡ value_of y
+same_then_one x y = (same x y).1.0
+
+pub one_then_same : (x y : PrimitiveValue) → value_of x ≡ value_of y → ghosts.eq x y ≡ true
+one_then_same x y = (same x y).1.1
+
+pub ruleset sameness = (same_is, same_then_one, one_then_same)

@@ -1,18 +1,12 @@
-// The operations on Numbers that are more than f64's own, one function for each.
-ghost use Rattle.ecma.specs.Number.{number_bitwise_and, number_bitwise_or, number_bitwise_xor, number_left_shift, number_less_than, number_remainder, number_signed_right_shift, number_unsigned_right_shift, is_zero};
+// The operations on Numbers that are more than f64's own, one function for each. The remainder has a
+// file to itself.
+ghost use Rattle.ecma.specs.Number.{number_bitwise_and, number_bitwise_or, number_bitwise_xor, number_left_shift, number_less_than, number_signed_right_shift, number_unsigned_right_shift, is_zero};
 ghost use Rattle.ecma.specs.Operators.{is_false, is_true};
 ghost use Rattle.std.specs.Prelude.{◌≡◌};
 
 use crate::int32::{to_int32, to_uint32};
-use crate::multiples::remainder_of;
 
 const COUNT: u32 = 0x1f;
-
-pub(crate) fn remainder(n: f64, d: f64) -> f64
-    ensures { result ≡ number_remainder n d }
-{
-    remainder_of(n, d)
-}
 
 #[tactic(auto, using(crate::proofs::Order::eq_zero))]
 pub(crate) fn is_zero(x: f64) -> bool
