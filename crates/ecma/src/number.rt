@@ -28,36 +28,42 @@ pub(crate) fn less_than_or_equal(x: f64, y: f64) -> bool
     x <= y
 }
 
+#[tactic(auto, using(crate::proofs::TwosComplement::and_is))]
 pub(crate) fn bitwise_and(x: f64, y: f64) -> f64
     ensures { result ≡ number_bitwise_and x y }
 {
     (to_int32(x) & to_int32(y)) as f64
 }
 
+#[tactic(auto, using(crate::proofs::TwosComplement::xor_is))]
 pub(crate) fn bitwise_xor(x: f64, y: f64) -> f64
     ensures { result ≡ number_bitwise_xor x y }
 {
     (to_int32(x) ^ to_int32(y)) as f64
 }
 
+#[tactic(auto, using(crate::proofs::TwosComplement::or_is))]
 pub(crate) fn bitwise_or(x: f64, y: f64) -> f64
     ensures { result ≡ number_bitwise_or x y }
 {
     (to_int32(x) | to_int32(y)) as f64
 }
 
+#[tactic(auto, using(crate::proofs::TwosComplement::left_is))]
 pub(crate) fn left_shift(x: f64, y: f64) -> f64
     ensures { result ≡ number_left_shift x y }
 {
     (to_int32(x) << (to_uint32(y) & COUNT)) as f64
 }
 
+#[tactic(auto, using(crate::proofs::TwosComplement::right_is))]
 pub(crate) fn signed_right_shift(x: f64, y: f64) -> f64
     ensures { result ≡ number_signed_right_shift x y }
 {
     (to_int32(x) >> (to_uint32(y) & COUNT)) as f64
 }
 
+#[tactic(auto, using(crate::proofs::TwosComplement::unsigned_is))]
 pub(crate) fn unsigned_right_shift(x: f64, y: f64) -> f64
     ensures { result ≡ number_unsigned_right_shift x y }
 {
