@@ -1,52 +1,54 @@
--- For values that are no Numbers, to be strictly equal is to be the same value, and that is to be one.
-use lib.Ieee.{Float}
-use Rattle.std.proofs.Common.{◌≡◌, ℕ, Bool, true, false, List, Decides, refl, ap}
+-- For two values the derived equality is SameValue, and says whether they are one.
+use Rattle.std.proofs.Common.{◌≡◌, true, false, Decides, refl, ap}
+use Rattle.std.proofs.lemmas.Bool.Decides.{Decides-like}
 use Rattle.std.proofs.lemmas.Slice.Eq.{bytes_eq-Decides}
-use Rattle.ecma.specs.Comparison.{is_strictly_equal, same_value}
+use Rattle.ecma.proofs.Stored.{bits_decide, bits_same}
+use Rattle.ecma.specs.Comparison.{same_value}
+use Rattle.ecma.specs.contracts.primitive_value.PrimitiveValuePartialEq.TheImpl.{ghosts}
 use Rattle.ecma.specs.declared.primitive_value.PrimitiveValue.{PrimitiveValue}
 use Rattle.ecma.specs.declared.primitive_value.PrimitiveValue.TheVariants.{Null, Undefined, Boolean, Number, String}
-use Rattle.ecma.specs.Value.{Primitive, null, undefined, boolean, number, string, value_of}
+use Rattle.ecma.specs.Value.{number, string, value_of}
 
-abbrev Same : Primitive → Primitive → Type 0
-Same x y = (is_strictly_equal x y ≡ same_value x y) × Decides (is_strictly_equal x y) (x ≡ y)
+abbrev Same : PrimitiveValue → PrimitiveValue → Type 0
+Same x y = (ghosts.eq x y ≡ same_value (value_of x) (value_of y)) × Decides (ghosts.eq x y) (value_of x ≡ value_of y)
 
-null_same : (y : Primitive) → Same null y
-null_same null = (refl, (λ h. refl, λ e. refl))
-null_same undefined = (refl, (λ h. cc, λ e. cc))
-null_same (boolean b) = (refl, (λ h. cc, λ e. cc))
-null_same (number y) = (refl, (λ h. cc, λ e. cc))
-null_same (string t) = (refl, (λ h. cc, λ e. cc))
+same : (x y : PrimitiveValue) → Same x y
+same Null Null = (refl, (λ h. refl, λ e. refl))
+same Null Undefined = (refl, (λ h. cc, λ e. cc))
+same Null (Boolean b) = (refl, (λ h. cc, λ e. cc))
+same Null (Number w) = (refl, (λ h. cc, λ e. cc))
+same Null (String t) = (refl, (λ h. cc, λ e. cc))
+same Undefined Null = (refl, (λ h. cc, λ e. cc))
+same Undefined Undefined = (refl, (λ h. refl, λ e. refl))
+same Undefined (Boolean b) = (refl, (λ h. cc, λ e. cc))
+same Undefined (Number w) = (refl, (λ h. cc, λ e. cc))
+same Undefined (String t) = (refl, (λ h. cc, λ e. cc))
+same (Boolean a) Null = (refl, (λ h. cc, λ e. cc))
+same (Boolean a) Undefined = (refl, (λ h. cc, λ e. cc))
+same (Boolean true) (Boolean true) = (refl, (λ h. refl, λ e. refl))
+same (Boolean true) (Boolean false) = (refl, (λ h. cc, λ e. cc))
+same (Boolean false) (Boolean true) = (refl, (λ h. cc, λ e. cc))
+same (Boolean false) (Boolean false) = (refl, (λ h. refl, λ e. refl))
+same (Boolean a) (Number w) = (refl, (λ h. cc, λ e. cc))
+same (Boolean a) (String t) = (refl, (λ h. cc, λ e. cc))
+same (Number v) Null = (refl, (λ h. cc, λ e. cc))
+same (Number v) Undefined = (refl, (λ h. cc, λ e. cc))
+same (Number v) (Boolean b) = (refl, (λ h. cc, λ e. cc))
+same (Number v) (Number w) = (bits_same v w, Decides-like (ghosts.eq (Number v) (Number w)) (ap number) (λ e. cc) (bits_decide v w))
+same (Number v) (String t) = (refl, (λ h. cc, λ e. cc))
+same (String s) Null = (refl, (λ h. cc, λ e. cc))
+same (String s) Undefined = (refl, (λ h. cc, λ e. cc))
+same (String s) (Boolean b) = (refl, (λ h. cc, λ e. cc))
+same (String s) (Number w) = (refl, (λ h. cc, λ e. cc))
+same (String s) (String t) = (refl, Decides-like (ghosts.eq (String s) (String t)) (ap string) (λ e. cc) (bytes_eq-Decides s.now t.now))
 
-undefined_same : (y : Primitive) → Same undefined y
-undefined_same null = (refl, (λ h. cc, λ e. cc))
-undefined_same undefined = (refl, (λ h. refl, λ e. refl))
-undefined_same (boolean b) = (refl, (λ h. cc, λ e. cc))
-undefined_same (number y) = (refl, (λ h. cc, λ e. cc))
-undefined_same (string t) = (refl, (λ h. cc, λ e. cc))
+pub same_is : (x y : PrimitiveValue) → ghosts.eq x y ≡ same_value (value_of x) (value_of y)
+same_is x y = (same x y).0
 
-boolean_same : (a : Bool) (y : Primitive) → Same (boolean a) y
-boolean_same a null = (refl, (λ h. cc, λ e. cc))
-boolean_same a undefined = (refl, (λ h. cc, λ e. cc))
-boolean_same true (boolean true) = (refl, (λ h. refl, λ e. refl))
-boolean_same true (boolean false) = (refl, (λ h. cc, λ e. cc))
-boolean_same false (boolean true) = (refl, (λ h. cc, λ e. cc))
-boolean_same false (boolean false) = (refl, (λ h. refl, λ e. refl))
-boolean_same a (number y) = (refl, (λ h. cc, λ e. cc))
-boolean_same a (string t) = (refl, (λ h. cc, λ e. cc))
+pub same_then_one : (x y : PrimitiveValue) → ghosts.eq x y ≡ true → value_of x ≡ value_of y
+same_then_one x y = (same x y).1.0
 
-bytes_of : (a b : List ℕ) → string a ≡ string b → a ≡ b
-bytes_of a b e = cc
+pub one_then_same : (x y : PrimitiveValue) → value_of x ≡ value_of y → ghosts.eq x y ≡ true
+one_then_same x y = (same x y).1.1
 
-string_same : (a : List ℕ) (y : Primitive) → Same (string a) y
-string_same a null = (refl, (λ h. cc, λ e. cc))
-string_same a undefined = (refl, (λ h. cc, λ e. cc))
-string_same a (boolean b) = (refl, (λ h. cc, λ e. cc))
-string_same a (number y) = (refl, (λ h. cc, λ e. cc))
-string_same a (string b) = (refl, (λ h. ap string ((bytes_eq-Decides a b).0 h), λ e. (bytes_eq-Decides a b).1 (bytes_of a b e)))
-
-pub no_number_same : (x : PrimitiveValue) → ((n : Float) → x ≡ Number n → ⊥) → (y : Primitive) → Same (value_of x) y
-no_number_same Null h y = null_same y
-no_number_same Undefined h y = undefined_same y
-no_number_same (Boolean a) h y = boolean_same a y
-no_number_same (Number n) h y = absurd (h n refl)
-no_number_same (String t) h y = string_same t.now y
+pub ruleset sameness = (same_is, same_then_one, one_then_same)

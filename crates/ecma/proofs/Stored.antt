@@ -1,11 +1,14 @@
 -- A Number and its stored bits: each is had from the other, and NaN has one pattern.
-use Rattle.std.proofs.Common.{◌≡◌, ℕ, ◌+◌, ◌-◌, ◌*◌, ◌/◌, ◌^◌, Bool, true, false, cond, T, ℤ, Decides, sym, refl, ap, ◌∙◌, subst, mul_right_comm, eqb→eq, eq-eqb}
+use Rattle.std.proofs.Common.{◌≡◌, ◌==◌, not, ℕ, ◌+◌, ◌-◌, ◌*◌, ◌/◌, ◌^◌, Bool, true, false, cond, T, ℤ, Decides, sym, refl, ap, ◌∙◌, subst, mul_right_comm, eqb→eq, eq-eqb}
 use lib.Ieee.{Float, nan, inf, fin, up, down, size, binary64, fits, is_nan, of_bits, to_bits}
-use lib.Ieee.Bits.{of_bits-to_bits}
+use lib.Ieee.Bits.{of_bits-fits, of_bits-to_bits, to_bits-of_bits}
 use lib.Ieee.Fits.{down_pos}
 use lib.Ieee.Nearest.{div_same}
+use Rattle.std.proofs.lemmas.Bool.Decides.{Decides-eqb, Decides-like, same_from_decides}
 use Rattle.ecma.proofs.Clash.{clash}
+use Rattle.ecma.specs.declared.float_value.FloatValue.{FloatValue}
 use Rattle.ecma.specs.Number.{number_same_value}
+use Rattle.ecma.specs.Value.{number_of}
 
 pub read_back : (x : Float) (b : ℕ) → T (fits binary64 x) → b ≡ to_bits binary64 x → of_bits binary64 b ≡ x
 read_back x b f e = ap (of_bits binary64) e ∙ of_bits-to_bits binary64 x f
@@ -61,9 +64,21 @@ module _ (x y : Float) (fx : T (fits binary64 x)) (fy : T (fits binary64 y)) whe
   from_bits : to_bits binary64 x ≡ to_bits binary64 y → x ≡ y
   from_bits h = sym (of_bits-to_bits binary64 x fx) ∙ ap (of_bits binary64) h ∙ of_bits-to_bits binary64 y fy
 
-  pub same_decides : Decides (number_same_value x y) (x ≡ y)
+  same_decides : Decides (number_same_value x y) (x ≡ y)
   same_decides = (λ h. from_bits (same_bits x y h), λ e. subst (λ (z : Float). number_same_value x z ≡ true) e (same_self x))
 
-  -- what `==` on the stored bits a and b says
-  pub bits_decide : (a b : ℕ) (r : Bool) → a ≡ to_bits binary64 x → b ≡ to_bits binary64 y → Decides r (a ≡ b) → Decides r (x ≡ y)
-  bits_decide a b r ea eb d = (λ h. from_bits (sym ea ∙ d.0 h ∙ eb), λ e. d.1 (ea ∙ ap (to_bits binary64) e ∙ sym eb))
+-- the stored bits are those that the Number is written with
+stored : (v : FloatValue) → v.bits ≡ to_bits binary64 (number_of v)
+stored v = go (is_nan (number_of v)) refl
+  where
+    go : (n : Bool) → is_nan (number_of v) ≡ n → v.bits ≡ to_bits binary64 (number_of v)
+    go true e = v.canonical e ∙ sym (nan_only (number_of v) e)
+    go false e = sym (to_bits-of_bits binary64 v.bits v.range (subst (λ (n : Bool). T (not n)) (sym e) tt))
+
+pub bits_decide : (v w : FloatValue) → Decides (v.bits == w.bits) (number_of v ≡ number_of w)
+bits_decide v w = Decides-like (v.bits == w.bits) (ap (of_bits binary64)) (λ e. stored v ∙ ap (to_bits binary64) e ∙ sym (stored w)) (Decides-eqb v.bits w.bits)
+
+pub bits_same : (v w : FloatValue) → (v.bits == w.bits) ≡ number_same_value (number_of v) (number_of w)
+bits_same v w =
+    same_from_decides (v.bits == w.bits) (number_same_value (number_of v) (number_of w)) (bits_decide v w)
+    (same_decides (number_of v) (number_of w) (of_bits-fits binary64 v.bits) (of_bits-fits binary64 w.bits))

@@ -22,7 +22,7 @@ abbrev pub value_of : PrimitiveValue → Primitive
 value_of Null = null
 value_of Undefined = undefined
 value_of (Boolean b) = boolean b
-value_of (Number x) = number x
+value_of (Number v) = number (number_of v)
 value_of (String t) = string t.now
 
 -- What f gives at a value of the kind that is named, and other at any other kind.

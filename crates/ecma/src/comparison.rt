@@ -4,7 +4,7 @@ ghost use Rattle.ecma.specs.Value.{value_of};
 ghost use Rattle.std.specs.Option.{option_map};
 ghost use Rattle.std.specs.Prelude.{◌≡◌, Decides};
 
-use crate::number::{is_zero, same_number};
+use crate::number::is_zero;
 use crate::primitive_value::PrimitiveValue;
 
 pub fn to_boolean(x: PrimitiveValue) -> bool
@@ -14,23 +14,18 @@ pub fn to_boolean(x: PrimitiveValue) -> bool
         PrimitiveValue::Null => false,
         PrimitiveValue::Undefined => false,
         PrimitiveValue::Boolean(b) => b,
-        PrimitiveValue::Number(n) => !is_zero(n) && !n.is_nan(),
+        PrimitiveValue::Number(n) => !is_zero(n.value()) && !n.value().is_nan(),
         PrimitiveValue::String(t) => !t.is_empty(),
     }
 }
 
 // Whether two values are one: the zeros differ, and NaN is itself.
+#[tactic(auto, using(crate::proofs::Sameness::sameness))]
 pub fn same_value(x: PrimitiveValue, y: PrimitiveValue) -> bool
     ensures value { result ≡ same_value (value_of x.entry) (value_of y.entry) }
     ensures decides { Decides result (value_of x.entry ≡ value_of y.entry) }
 {
-    match x {
-        PrimitiveValue::Number(a) => match y {
-            PrimitiveValue::Number(b) => same_number(a, b),
-            _ => false,
-        },
-        _ => is_strictly_equal(x, y),
-    }
+    x == y
 }
 
 pub fn is_strictly_equal(x: PrimitiveValue, y: PrimitiveValue) -> bool
@@ -40,25 +35,20 @@ pub fn is_strictly_equal(x: PrimitiveValue, y: PrimitiveValue) -> bool
         (PrimitiveValue::Null, PrimitiveValue::Null) => true,
         (PrimitiveValue::Undefined, PrimitiveValue::Undefined) => true,
         (PrimitiveValue::Boolean(a), PrimitiveValue::Boolean(b)) => a == b,
-        (PrimitiveValue::Number(a), PrimitiveValue::Number(b)) => a == b,
+        (PrimitiveValue::Number(a), PrimitiveValue::Number(b)) => a.value() == b.value(),
         (PrimitiveValue::String(a), PrimitiveValue::String(b)) => a == b,
         _ => false,
     }
 }
 
-fn to_number(b: bool) -> f64
-    ensures { result ≡ to_number b }
-{
-    if b { 1.0 } else { 0.0 }
-}
-
 // The number by which a Boolean or a Number is compared with `==`.
+#[tactic(auto, using(crate::proofs::LooseEquality::number_of_bool))]
 fn numeric(x: PrimitiveValue) -> Option<f64>
     ensures { result ≡ numeric_of (value_of x.entry) }
 {
     match x {
-        PrimitiveValue::Boolean(b) => Some(to_number(b)),
-        PrimitiveValue::Number(n) => Some(n),
+        PrimitiveValue::Boolean(b) => Some(f64::from(b)),
+        PrimitiveValue::Number(n) => Some(n.value()),
         PrimitiveValue::Null | PrimitiveValue::Undefined | PrimitiveValue::String(_) => None,
     }
 }

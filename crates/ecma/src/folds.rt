@@ -1,12 +1,14 @@
 // What an operator gives at known values.
+ghost use Rattle.ecma.specs.declared.folds.Folded.TheVariants.{Boolean, Number};
 ghost use Rattle.ecma.specs.Operators.{binary_fold, folded_of, unary_fold, update_fold};
 ghost use Rattle.ecma.specs.Value.{Primitive, value_of};
 ghost use Rattle.std.specs.Option.{option_map};
 ghost use Rattle.std.specs.Prelude.{◌≡◌, Some, None};
 
 use crate::comparison::{is_loosely_equal, is_strictly_equal, to_boolean};
+use crate::multiples::remainder;
 use crate::number::{
-    bitwise_and, bitwise_or, bitwise_xor, left_shift, less_than, less_than_or_equal, remainder,
+    bitwise_and, bitwise_or, bitwise_xor, left_shift, less_than, less_than_or_equal,
     signed_right_shift, unsigned_right_shift,
 };
 use crate::operators::{BinaryOperator, UnaryOperator, UpdateOperator};
@@ -14,49 +16,55 @@ use crate::primitive_value::PrimitiveValue;
 
 // What a binary operator gives: a Boolean, a Number, or that the two operands, which are Strings,
 // are to be joined. Whoever keeps the texts does that.
-#[derive(Clone, Copy)]
+#[derive(Clone, Copy, PartialEq, Debug)]
 pub enum Folded {
     Boolean(bool),
     Number(f64),
     Join,
 }
 
-fn number(x: f64) -> Option<Folded>
-    ensures { result ≡ Some (Folded.Number x) }
-{
-    Some(Folded::Number(x))
+impl From<bool> for Folded {
+    ghost from_gives = { λ b r. r ≡ Boolean b };
+
+    fn from(b: bool) -> Self {
+        Folded::Boolean(b)
+    }
 }
 
-fn boolean(b: bool) -> Option<Folded>
-    ensures { result ≡ Some (Folded.Boolean b) }
-{
-    Some(Folded::Boolean(b))
+impl From<f64> for Folded {
+    ghost from_gives = { λ x r. r ≡ Number x };
+
+    fn from(x: f64) -> Self {
+        Folded::Number(x)
+    }
 }
 
 // What a binary operator gives at two Numbers.
 fn evaluate_numbers(operator: BinaryOperator, l: f64, r: f64) -> Option<Folded>
     ensures { option_map (folded_of (Primitive.number l) (Primitive.number r)) result ≡ binary_fold (λ _. None) operator (Primitive.number l) (Primitive.number r) }
 {
-    match operator {
-        BinaryOperator::Addition => number(l + r),
-        BinaryOperator::Subtraction => number(l - r),
-        BinaryOperator::Multiplication => number(l * r),
-        BinaryOperator::Division => number(l / r),
-        BinaryOperator::Remainder => number(remainder(l, r)),
-        BinaryOperator::BitwiseOR => number(bitwise_or(l, r)),
-        BinaryOperator::BitwiseAnd => number(bitwise_and(l, r)),
-        BinaryOperator::BitwiseXOR => number(bitwise_xor(l, r)),
-        BinaryOperator::ShiftLeft => number(left_shift(l, r)),
-        BinaryOperator::ShiftRight => number(signed_right_shift(l, r)),
-        BinaryOperator::ShiftRightZeroFill => number(unsigned_right_shift(l, r)),
-        BinaryOperator::LessThan => boolean(less_than(l, r)),
-        BinaryOperator::LessEqualThan => boolean(less_than_or_equal(l, r)),
-        BinaryOperator::GreaterThan => boolean(less_than(r, l)),
-        BinaryOperator::GreaterEqualThan => boolean(less_than_or_equal(r, l)),
-        BinaryOperator::StrictEquality | BinaryOperator::Equality => boolean(l == r),
-        BinaryOperator::StrictInequality | BinaryOperator::Inequality => boolean(l != r),
-        BinaryOperator::Exponential | BinaryOperator::In | BinaryOperator::Instanceof => None,
-    }
+    let folded = match operator {
+        BinaryOperator::Addition => Folded::from(l + r),
+        BinaryOperator::Subtraction => Folded::from(l - r),
+        BinaryOperator::Multiplication => Folded::from(l * r),
+        BinaryOperator::Division => Folded::from(l / r),
+        BinaryOperator::Remainder => Folded::from(remainder(l, r)),
+        BinaryOperator::BitwiseOR => Folded::from(bitwise_or(l, r)),
+        BinaryOperator::BitwiseAnd => Folded::from(bitwise_and(l, r)),
+        BinaryOperator::BitwiseXOR => Folded::from(bitwise_xor(l, r)),
+        BinaryOperator::ShiftLeft => Folded::from(left_shift(l, r)),
+        BinaryOperator::ShiftRight => Folded::from(signed_right_shift(l, r)),
+        BinaryOperator::ShiftRightZeroFill => Folded::from(unsigned_right_shift(l, r)),
+        BinaryOperator::LessThan => Folded::from(less_than(l, r)),
+        BinaryOperator::LessEqualThan => Folded::from(less_than_or_equal(l, r)),
+        BinaryOperator::GreaterThan => Folded::from(less_than(r, l)),
+        BinaryOperator::GreaterEqualThan => Folded::from(less_than_or_equal(r, l)),
+        BinaryOperator::StrictEquality | BinaryOperator::Equality => Folded::from(l == r),
+        BinaryOperator::StrictInequality | BinaryOperator::Inequality => Folded::from(l != r),
+        BinaryOperator::Exponential | BinaryOperator::In | BinaryOperator::Instanceof =>
+            return None,
+    };
+    Some(folded)
 }
 
 // `text_number` is as in `is_loosely_equal`.
@@ -69,19 +77,20 @@ pub fn evaluate_binary_op(
     ensures { option_map (folded_of (value_of lhs.entry) (value_of rhs.entry)) result ≡ binary_fold (λ _. text_number) operator (value_of lhs.entry) (value_of rhs.entry) }
 {
     if let (PrimitiveValue::Number(l), PrimitiveValue::Number(r)) = (lhs, rhs) {
-        return evaluate_numbers(operator, l, r);
+        return evaluate_numbers(operator, l.value(), r.value());
     }
-    match operator {
+    let folded = match operator {
         BinaryOperator::Addition => match (lhs, rhs) {
-            (PrimitiveValue::String(_), PrimitiveValue::String(_)) => Some(Folded::Join),
-            _ => None,
+            (PrimitiveValue::String(_), PrimitiveValue::String(_)) => Folded::Join,
+            _ => return None,
         },
-        BinaryOperator::StrictEquality => boolean(is_strictly_equal(lhs, rhs)),
-        BinaryOperator::StrictInequality => boolean(!is_strictly_equal(lhs, rhs)),
-        BinaryOperator::Equality => boolean(is_loosely_equal(lhs, rhs, text_number)?),
-        BinaryOperator::Inequality => boolean(!is_loosely_equal(lhs, rhs, text_number)?),
-        _ => None,
-    }
+        BinaryOperator::StrictEquality => Folded::from(is_strictly_equal(lhs, rhs)),
+        BinaryOperator::StrictInequality => Folded::from(!is_strictly_equal(lhs, rhs)),
+        BinaryOperator::Equality => Folded::from(is_loosely_equal(lhs, rhs, text_number)?),
+        BinaryOperator::Inequality => Folded::from(!is_loosely_equal(lhs, rhs, text_number)?),
+        _ => return None,
+    };
+    Some(folded)
 }
 
 pub fn evaluate_update_op(operation: UpdateOperator, value: f64) -> f64
@@ -97,9 +106,9 @@ pub fn evaluate_unary_op(operator: UnaryOperator, value: PrimitiveValue) -> Opti
     ensures { option_map value_of result ≡ unary_fold operator (value_of value.entry) }
 {
     match operator {
-        UnaryOperator::Not => Some(PrimitiveValue::Boolean(!to_boolean(value))),
+        UnaryOperator::Not => Some(PrimitiveValue::from(!to_boolean(value))),
         UnaryOperator::Minus => match value {
-            PrimitiveValue::Number(n) => Some(PrimitiveValue::Number(-n)),
+            PrimitiveValue::Number(n) => Some(PrimitiveValue::from(-n.value())),
             _ => None,
         },
         UnaryOperator::Plus
