@@ -120,7 +120,7 @@ fn same_number(a: f64, b: f64) -> bool
 fn number_value(x: f64) -> PrimitiveValue<'static>
     ensures { result ≡ Number x }
 {
-    PrimitiveValue::Number(x)
+    PrimitiveValue::from(x)
 }
 
 fn same_text(a: &[u8], b: &[u8]) -> bool
