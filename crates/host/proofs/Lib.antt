@@ -7,4 +7,3 @@ mod NumberKinds
 mod Searches
 mod WholeNumber
 mod WholeText
-mod Wrote

@@ -38,25 +38,26 @@ equal_where_whole n m e small is = go (of_int binary64 (pos n)) (round_whole bin
         (Decides-like (eqb (k * up d * down e) (m * up e * down d)) both.0 both.1 (Decides-eqb (k * up d * down e) (m * up e * down d)))
         (Decides-eqb (m * up e % down e) 0)
 
-pub text_by_size : (x size : Float) (n : ℕ) → float_is_finite x ≡ true → size ≡ float_with_sign false x → n ≡ to_unsigned 64 size → n < 2 ^ 53
-    → number_text x ≡ cond (eq (of_int binary64 (pos n)) size) (Some (whole_text (is_sign_negative x) n)) None
+abbrev cut : Float → ℕ
+cut x = to_unsigned 64 (float_with_sign false x)
+
+pub text_by_size : (x : Float) → float_is_finite x ≡ true → cut x < 2 ^ 53
+    → number_text x ≡ cond (eq (of_int binary64 (pos (cut x))) (float_with_sign false x)) (Some (whole_text (is_sign_negative x) (cut x))) None
 unfolding float_is_finite is_sign_negative float_with_sign to_unsigned
-text_by_size nan size n f a is small = absurd (true≢false (sym f))
-text_by_size (inf s) size n f a is small = absurd (true≢false (sym f))
-text_by_size (fin s m e) size n f a is small =
-    let cut = is ∙ ap (to_unsigned 64) a in
-    let whole : n ≡ m * up e / down e = omega arith in
-    let equal = ap (λ (y : Float). eq (of_int binary64 (pos n)) y) a ∙ equal_where_whole n m e (omega arith) whole in
+text_by_size nan f small = absurd (true≢false (sym f))
+text_by_size (inf s) f small = absurd (true≢false (sym f))
+text_by_size (fin s m e) f small =
+    let whole : cut (fin s m e) ≡ m * up e / down e = omega arith in
+    let equal = equal_where_whole (cut (fin s m e)) m e (omega arith) whole in
     let low = le-leb (m * up e / down e) (2 ^ 53 - 1) (omega arith) in
     ap (λ (b : Bool). cond (eqb (m * up e % down e) 0 && b) (Some (whole_text s (m * up e / down e))) None) low
     ∙ ap (λ (b : Bool). cond b (Some (whole_text s (m * up e / down e))) None) (and_true (eqb (m * up e % down e) 0) ∙ sym equal)
-    ∙ ap (λ (q : ℕ). cond (eq (of_int binary64 (pos n)) size) (Some (whole_text s q)) None) (sym whole)
+    ∙ ap (λ (q : ℕ). cond (eq (of_int binary64 (pos (cut (fin s m e)))) (fin false m e)) (Some (whole_text s q)) None) (sym whole)
 
-pub no_text_from : (x size : Float) (n : ℕ) → float_is_finite x ≡ true → size ≡ float_with_sign false x → n ≡ to_unsigned 64 size → 2 ^ 53 ≤ n → number_text x ≡ None
+pub no_text_from : (x : Float) → float_is_finite x ≡ true → 2 ^ 53 ≤ cut x → number_text x ≡ None
 unfolding float_is_finite float_with_sign to_unsigned
-no_text_from nan size n f a is large = absurd (true≢false (sym f))
-no_text_from (inf s) size n f a is large = absurd (true≢false (sym f))
-no_text_from (fin s m e) size n f a is large =
-    let cut = is ∙ ap (to_unsigned 64) a in
+no_text_from nan f large = absurd (true≢false (sym f))
+no_text_from (inf s) f large = absurd (true≢false (sym f))
+no_text_from (fin s m e) f large =
     let past : leb (m * up e / down e) (2 ^ 53 - 1) ≡ false = lt-leb (m * up e / down e) (2 ^ 53 - 1) (omega arith) in
     cond-false _ _ _ (and_right (eqb (m * up e % down e) 0) (leb (m * up e / down e) (2 ^ 53 - 1)) past)

@@ -5,20 +5,21 @@ use Rattle.std.proofs.Math.Utf8.{encodes}
 use Rattle.ecma.specs.Number.{number_same_value}
 use Rattle.host.specs.Answers.{Bounded}
 use Rattle.host.specs.declared.list.TextEntry.{TextEntry}
-use Rattle.host.specs.ListHost.{first_of, is_utf8, listed_text}
+use Rattle.host.specs.ListHost.{is_utf8, listed_text}
 use Rattle.std.proofs.lemmas.Slice.Eq.{bytes_eq-Decides}
 use Rattle.std.proofs.lemmas.Bool.{cases_Bool, and_from, and_parts, leb-true}
 use Rattle.std.proofs.lemmas.Str.{encodes-chars, scalars-chars}
+use Rattle.std.specs.List.{find}
 use Rattle.std.specs.Option.{option_map}
 use Rattle.std.specs.Str.{chars}
 
 -- what holds at each entry that passes holds of the answer
 pub of_answer :
     {A B : Type 0} (p : A → Bool) (f : A → B) (P : B → Type 0) → ((x : A) → p x ≡ true → P (f x))
-    → (xs : List A) (y : B) → option_map f (first_of p xs) ≡ Some y → P y
+    → (xs : List A) (y : B) → option_map f (find p xs) ≡ Some y → P y
 of_answer p f P h [] y e = let z : ◌≡◌ {A = ℕ} 0 1 = cc in absurd (omega arith)
 of_answer p f P h (x ∷ xs) y e =
-    let F = λ (b : Bool). option_map f (cond b (Some x) (first_of p xs)) in
+    let F = λ (b : Bool). option_map f (cond b (Some x) (find p xs)) in
     ⊎_elim
     (λ t. let s = sym (ap F t) ∙ e in let k : f x ≡ y = cc in subst P k (h x t))
     (λ u. of_answer p f P h xs y (sym (ap F u) ∙ e))
