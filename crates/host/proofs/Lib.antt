@@ -4,6 +4,5 @@ mod DecimalEnd
 mod DigitValue
 mod FloatLiterals
 mod NumberKinds
-mod Searches
 mod WholeNumber
 mod WholeText

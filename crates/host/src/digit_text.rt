@@ -54,7 +54,10 @@ impl WholeNumber {
             return None;
         }
         if whole as f64 == size {
-            Some(WholeNumber { minus: number.is_sign_negative(), size: whole })
+            Some(WholeNumber {
+                minus: number.is_sign_negative(),
+                size: whole,
+            })
         } else {
             None
         }
@@ -81,6 +84,7 @@ impl WholeNumber {
 }
 
 // Writes the digits from the place `start` on, and returns where they end.
+#[tactic(auto, using(crate::proofs::DecimalEnd::length_more, crate::proofs::DecimalEnd::length_one, crate::proofs::DecimalEnd::one_digit, crate::proofs::DecimalEnd::last_digit))]
 fn write_decimal(number: u64, start: usize, buffer: &mut [u8; 32]) -> usize
     requires { start + length (decimal number) ≤ 32 }
     ensures end { result ≡ start + length (decimal number) }

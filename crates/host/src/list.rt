@@ -13,7 +13,7 @@ use text::is_utf8;
 // The text of a number is no longer.
 const LONGEST: usize = 32;
 
-// The text of a number.
+// The text of a number. The entries' types differ by their fields' names, which say what each list holds.
 #[derive(Clone, Copy)]
 pub struct TextEntry<'a> {
     pub number: f64,
@@ -51,6 +51,7 @@ impl Host for ListHost<'_> {
 
     ghost bounded = { λ h x t e. listed_bounded h.texts.now x t e };
 
+    #[tactic(auto, using(crate::specs::ListedTexts::listed_bounded))]
     fn number_text(&self, number: f64, buffer: &mut [u8; 32]) -> Option<usize> {
         let text = find_text(self.texts, number)?;
         Some(write_text(text, buffer))
