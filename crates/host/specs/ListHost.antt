@@ -1,17 +1,12 @@
 -- The maps of the list host: the first entry that matches, in lists that are handed in.
 use Rattle.std.specs.Prelude.{ℕ, Bool, ◌&&◌, List, length, Option, nat_le, Float}
-use Rattle.std.proofs.Math.Utf8.{encodes, scalars}
 use Rattle.ecma.specs.Number.{number_same_value}
 use Rattle.host.specs.declared.list.NameEntry.{NameEntry}
 use Rattle.host.specs.declared.list.NumberEntry.{NumberEntry}
 use Rattle.host.specs.declared.list.TextEntry.{TextEntry}
 use Rattle.std.specs.List.{find}
 use Rattle.std.specs.Option.{option_map}
-use Rattle.std.specs.Str.{chars, bytes_eq}
-
--- whether bytes are UTF-8: what they decode to are characters, and encodes to them
-abbrev pub is_utf8 : List ℕ → Bool
-is_utf8 bs = scalars (chars bs) && bytes_eq (encodes (chars bs)) bs
+use Rattle.std.specs.Str.{bytes_eq, is_utf8}
 
 -- Numbers match by SameValue. An entry whose text has more than 32 bytes, or is not UTF-8, is passed over.
 abbrev pub listed_text : List TextEntry → Float → Option (List ℕ)

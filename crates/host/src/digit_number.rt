@@ -50,6 +50,7 @@ impl ShortNumber {
     }
 }
 
+#[tactic(auto, using(crate::proofs::FloatLiterals::zero_bits))]
 pub fn text_number(text: &[u8]) -> Option<f64>
     ensures { result ≡ text_number text.now }
 {
@@ -73,6 +74,7 @@ fn number_after_sign(minus: bool, text: &[u8]) -> Option<f64>
     Some(number.with_sign(minus))
 }
 
+#[tactic(auto, using(crate::proofs::FloatLiterals::infinity_bits, crate::proofs::FloatLiterals::minus_infinity_bits))]
 fn infinity(minus: bool) -> f64
     ensures { result ≡ inf minus }
 {

@@ -1,9 +1,10 @@
 // A host that answers from lists.
 ghost use Rattle.std.specs.Prelude.{◌≡◌, ◌&&◌, length, nat_le};
 ghost use Rattle.ecma.specs.Number.{number_same_value};
-ghost use Rattle.host.specs.ListHost.{is_utf8, listed_name, listed_number, listed_text};
+ghost use Rattle.host.specs.ListHost.{listed_name, listed_number, listed_text};
 ghost use Rattle.host.specs.ListedTexts.{listed_bounded};
 ghost use Rattle.std.specs.Option.{option_map};
+ghost use Rattle.std.specs.Str.{is_utf8};
 
 use crate::host::Host;
 use crate::write_text::write_text;
