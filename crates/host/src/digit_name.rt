@@ -47,8 +47,8 @@ const RESERVED: [&[u8]; 38] = [
     b"yield",
 ];
 
-#[tactic(auto, using(crate::proofs::AsciiTexts::ascii, crate::proofs::AsciiTexts::not_ascii))]
 // Whether the text is a valid name, where it is ASCII.
+#[tactic(auto, using(crate::proofs::AsciiTexts::ascii, crate::proofs::AsciiTexts::not_ascii))]
 pub fn is_name(text: &[u8]) -> Option<bool>
     ensures { result ≡ is_name text.now }
 {

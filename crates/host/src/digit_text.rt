@@ -13,8 +13,8 @@ const MAX_SAFE_INTEGER: u64 = 9_007_199_254_740_991;
 
 const BASE: u64 = 10;
 
-#[tactic(auto, using(crate::proofs::NumberKinds::finite_else, crate::proofs::NumberKinds::text_of_nan, crate::proofs::NumberKinds::text_of_infinite))]
 // The length of the number's text, which is written to the front of the buffer.
+#[tactic(auto, using(crate::proofs::NumberKinds::finite_else, crate::proofs::NumberKinds::text_of_nan, crate::proofs::NumberKinds::text_of_infinite))]
 pub fn number_text(number: f64, buffer: &mut [u8; 32]) -> Option<usize>
     ensures { Wrote (number_text number) result buffer.new }
 {
