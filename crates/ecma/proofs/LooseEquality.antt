@@ -1,11 +1,18 @@
 -- IsLooselyEqual with the Number or the Boolean on the right is the same comparison from the left.
-use lib.Ieee.{Float, eq}
-use Rattle.std.proofs.Common.{◌≡◌, ℕ, Bool, true, false, List, Some, None, Option, sym, refl, ap, ◌∙◌}
+use lib.Ieee.{Float, eq, binary64, of_int}
+use Rattle.std.proofs.Common.{◌≡◌, ℕ, Bool, true, false, List, Some, None, Option, pos, sym, refl, ap, ◌∙◌}
+use Rattle.std.specs.Int.{from_bool}
 use Rattle.std.specs.Option.{option_map}
 use Rattle.ecma.proofs.Clash.{clash}
 use Rattle.ecma.proofs.Order.{eq_sym}
 use Rattle.ecma.specs.Comparison.{is_loosely_equal, to_number, number_equals, numeric_of}
 use Rattle.ecma.specs.Value.{Primitive, null, undefined, boolean, number, string}
+
+-- the Number of a Boolean as the code has it
+pub number_of_bool : (b : Bool) → of_int binary64 (pos (from_bool b)) ≡ to_number b
+unfolding of_int
+number_of_bool true = refl
+number_of_bool false = refl
 
 taken : (x n : Float) → ◌≡◌ {A = Option Float} (Some x) (Some n) → x ≡ n
 taken x n e = cc

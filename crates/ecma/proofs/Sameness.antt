@@ -1,7 +1,7 @@
 -- For two values the derived equality is SameValue, and says whether they are one.
 use Rattle.std.proofs.Common.{◌≡◌, true, false, Decides, refl, ap}
-use Rattle.std.proofs.lemmas.Bool.Decides.{Decides-eqb, Decides-like, same_from_decides}
-use Rattle.std.proofs.lemmas.Slice.Eq.{bytes_eq-Decides, slice_eq-Decides}
+use Rattle.std.proofs.lemmas.Bool.Decides.{Decides-like}
+use Rattle.std.proofs.lemmas.Slice.Eq.{bytes_eq-Decides}
 use Rattle.ecma.proofs.Stored.{bits_decide, bits_same}
 use Rattle.ecma.specs.Comparison.{same_value}
 use Rattle.ecma.specs.contracts.primitive_value.PrimitiveValuePartialEq.TheImpl.{ghosts}
@@ -12,7 +12,7 @@ use Rattle.ecma.specs.Value.{number, string, value_of}
 abbrev Same : PrimitiveValue → PrimitiveValue → Type 0
 Same x y = (ghosts.eq x y ≡ same_value (value_of x) (value_of y)) × Decides (ghosts.eq x y) (value_of x ≡ value_of y)
 
-pub same : (x y : PrimitiveValue) → Same x y
+same : (x y : PrimitiveValue) → Same x y
 same Null Null = (refl, (λ h. refl, λ e. refl))
 same Null Undefined = (refl, (λ h. cc, λ e. cc))
 same Null (Boolean b) = (refl, (λ h. cc, λ e. cc))
@@ -40,6 +40,15 @@ same (String s) Null = (refl, (λ h. cc, λ e. cc))
 same (String s) Undefined = (refl, (λ h. cc, λ e. cc))
 same (String s) (Boolean b) = (refl, (λ h. cc, λ e. cc))
 same (String s) (Number w) = (refl, (λ h. cc, λ e. cc))
-same (String s) (String t) =
-    let d = slice_eq-Decides Decides-eqb s.now t.now (ghosts.eq (String s) (String t)) refl in
-    (same_from_decides _ _ d (bytes_eq-Decides s.now t.now), Decides-like (ghosts.eq (String s) (String t)) (ap string) (λ e. cc) d)
+same (String s) (String t) = (refl, Decides-like (ghosts.eq (String s) (String t)) (ap string) (λ e. cc) (bytes_eq-Decides s.now t.now))
+
+pub same_is : (x y : PrimitiveValue) → ghosts.eq x y ≡ same_value (value_of x) (value_of y)
+same_is x y = (same x y).0
+
+pub same_then_one : (x y : PrimitiveValue) → ghosts.eq x y ≡ true → value_of x ≡ value_of y
+same_then_one x y = (same x y).1.0
+
+pub one_then_same : (x y : PrimitiveValue) → value_of x ≡ value_of y → ghosts.eq x y ≡ true
+one_then_same x y = (same x y).1.1
+
+pub ruleset sameness = (same_is, same_then_one, one_then_same)

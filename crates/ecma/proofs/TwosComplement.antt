@@ -1,61 +1,85 @@
 -- The 32-bit bit string of an integer is what the machine's i32 holds, and the integer of a bit string is what it reads.
-use lib.Bits.{and_mask, bit_and}
-use lib.Ieee.{binary64, of_int}
+use lib.Bits.{and_lt, and_mask, bit_and, bit_or, bit_xor, or_lt, xor_lt}
+use lib.Ieee.{Float, binary64, of_int}
 use Rattle.std.proofs.Common.{◌≡◌, ℕ, suc, ◌-◌, ◌*◌, ◌/◌, ◌%◌, ◌^◌, ◌<◌, ℤ, pos, negsuc, sym, ap, ◌∙◌, lt_of_le_of_lt, mod-eq_of_lt, arith, w32, SFits, to_z, of_z}
 use lib.Signed.{mag, mag_shr, shr_z}
 use Rattle.std.proofs.lemmas.Int.{ints, to_z-of_z}
 use Rattle.std.proofs.lemmas.Bool.Decides.{nat_tests}
-use Rattle.ecma.specs.Integer.{bit_string, integer_of, modulo}
+use Rattle.ecma.specs.Integer.{bit_string, integer_of, modulo, to_int32, to_uint32}
+use Rattle.ecma.specs.Number.{number_bitwise_and, number_bitwise_or, number_bitwise_xor, number_left_shift, number_signed_right_shift, number_unsigned_right_shift}
 
-pub bits_of : (z : ℤ) → SFits w32 z → bit_string z ≡ of_z w32 z
+bits_of : (z : ℤ) → SFits w32 z → bit_string z ≡ of_z w32 z
 unfolding bit_string modulo
 bits_of (pos n) h = let l : n < 2 ^ 32 = omega (arith, h.sfits) in mod-eq_of_lt l
 bits_of (negsuc n) h = let l : n < 2 ^ 32 = omega (arith, h.sfits) in ap (λ (k : ℕ). 2 ^ 32 - suc k) (mod-eq_of_lt l)
 
-pub integer_of_lem : (n : ℕ) → n < 2 ^ 32 → integer_of n ≡ to_z w32 n
+integer_of_lem : (n : ℕ) → n < 2 ^ 32 → integer_of n ≡ to_z w32 n
 unfolding integer_of
 integer_of_lem n h = grind (arith, nat_tests, ints)
 
 -- ---- the machine's operations on i32 are the standard's on bit strings
 
-pub read_bits : (n : ℕ) (z : ℤ) → z ≡ to_z w32 n → n < 2 ^ 32 → mag z < 2 ^ 31 → to_z w32 (of_z w32 z) ≡ integer_of n
-read_bits n z e l h = to_z-of_z w32 z (record { sfits = h }) ∙ e ∙ sym (integer_of_lem n l)
+pub int32_is : (x : Float) (n : ℕ) (z : ℤ) → z ≡ to_z w32 n → n ≡ to_uint32 x → n < 2 ^ 32 → mag z < 2 ^ 31 → to_z w32 (of_z w32 z) ≡ to_int32 x
+unfolding to_int32 to_uint32
+int32_is x n z e nx l h = to_z-of_z w32 z (record { sfits = h }) ∙ e ∙ sym (integer_of_lem n l) ∙ ap integer_of nx
 
-pub of_z_lt : (z : ℤ) → mag z < 2 ^ 31 → of_z w32 z < 2 ^ 32
+of_z_lt : (z : ℤ) → mag z < 2 ^ 31 → of_z w32 z < 2 ^ 32
 of_z_lt (pos n) h = omega arith
 of_z_lt (negsuc n) h = omega arith
 
--- Below, a and b are what to_int32 gave, u and v what to_uint32 gave.
+-- Below, a and b are what to_int32 gave for x and y, u and v what to_uint32 gave.
 
-pub bitwise : (f : ℕ → ℕ → ℕ) (a b x y : ℤ) → a ≡ x → b ≡ y → mag a < 2 ^ 31 → mag b < 2 ^ 31 → f (of_z w32 a) (of_z w32 b) < 2 ^ 32
-    → of_int binary64 (to_z w32 (f (of_z w32 a) (of_z w32 b))) ≡ of_int binary64 (integer_of (f (bit_string x) (bit_string y)))
-bitwise f a b x y ax by ha hb small =
-    ap (of_int binary64)
-    (sym (integer_of_lem (f (of_z w32 a) (of_z w32 b)) small) ∙ ap (λ (n : ℕ). integer_of (f n (of_z w32 b))) (sym (bits_of a (record { sfits = ha })) ∙ ap bit_string ax)
-    ∙ ap (λ (n : ℕ). integer_of (f (bit_string x) n)) (sym (bits_of b (record { sfits = hb })) ∙ ap bit_string by))
+written : (a : ℤ) (x : Float) → a ≡ to_int32 x → mag a < 2 ^ 31 → of_z w32 a ≡ bit_string (to_int32 x)
+written a x e h = sym (bits_of a (record { sfits = h })) ∙ ap bit_string e
+
+bitwise : (f : ℕ → ℕ → ℕ) (below : (w a b : ℕ) → a < 2 ^ w → b < 2 ^ w → f a b < 2 ^ w) (x y : Float) (a b : ℤ) → a ≡ to_int32 x → b ≡ to_int32 y → mag a < 2 ^ 31 → mag b < 2 ^ 31
+    → to_z w32 (f (of_z w32 a) (of_z w32 b)) ≡ integer_of (f (bit_string (to_int32 x)) (bit_string (to_int32 y)))
+bitwise f below x y a b ax by ha hb =
+    sym (integer_of_lem (f (of_z w32 a) (of_z w32 b)) (below 32 (of_z w32 a) (of_z w32 b) (of_z_lt a ha) (of_z_lt b hb)))
+    ∙ ap (λ (n : ℕ). integer_of (f n (of_z w32 b))) (written a x ax ha) ∙ ap (λ (n : ℕ). integer_of (f (bit_string (to_int32 x)) n)) (written b y by hb)
 
 -- a shift's count
-count : (u v : ℕ) → u ≡ v → bit_and u 31 ≡ v % 32
-count u v uv = and_mask u 5 ∙ ap (λ (n : ℕ). n % 32) uv
+count : (u : ℕ) (y : Float) → u ≡ to_uint32 y → bit_and u 31 ≡ to_uint32 y % 32
+count u y e = and_mask u 5 ∙ ap (λ (n : ℕ). n % 32) e
 
 low_word : (n : ℕ) → n % 2 ^ 32 < 2 ^ 32
 low_word n = omega arith
 
-pub shift_left : (a x : ℤ) (u v : ℕ) → a ≡ x → u ≡ v → mag a < 2 ^ 31
-    → of_int binary64 (to_z w32 (of_z w32 a * 2 ^ bit_and u 31 % 2 ^ 32)) ≡ of_int binary64 (integer_of (bit_string x * 2 ^ (v % 32) % 2 ^ 32))
-shift_left a x u v ax uv h =
-    ap (of_int binary64)
-    (sym (integer_of_lem (of_z w32 a * 2 ^ bit_and u 31 % 2 ^ 32) (low_word (of_z w32 a * 2 ^ bit_and u 31)))
-    ∙ ap (λ (n : ℕ). integer_of (n * 2 ^ bit_and u 31 % 2 ^ 32)) (sym (bits_of a (record { sfits = h })) ∙ ap bit_string ax)
-    ∙ ap (λ (k : ℕ). integer_of (bit_string x * 2 ^ k % 2 ^ 32)) (count u v uv))
+module _ (x y : Float) where
+  pub and_is : (a b : ℤ) → a ≡ to_int32 x → b ≡ to_int32 y → mag a < 2 ^ 31 → mag b < 2 ^ 31
+      → of_int binary64 (to_z w32 (bit_and (of_z w32 a) (of_z w32 b))) ≡ number_bitwise_and x y
+  unfolding number_bitwise_and
+  and_is a b ax by ha hb = ap (of_int binary64) (bitwise bit_and and_lt x y a b ax by ha hb)
 
-pub shift_right : (a x : ℤ) (u v : ℕ) → a ≡ x → u ≡ v → mag a < 2 ^ 31
-    → of_int binary64 (to_z w32 (of_z w32 (shr_z (to_z w32 (of_z w32 a)) (2 ^ bit_and u 31)))) ≡ of_int binary64 (shr_z x (2 ^ (v % 32)))
-shift_right a x u v ax uv h =
-    ap (of_int binary64)
-    (ap (λ (z : ℤ). to_z w32 (of_z w32 (shr_z z (2 ^ bit_and u 31)))) (to_z-of_z w32 a (record { sfits = h }))
-    ∙ to_z-of_z w32 (shr_z a (2 ^ bit_and u 31)) (record { sfits = lt_of_le_of_lt (mag_shr a (2 ^ bit_and u 31)) h })
-    ∙ ap (λ (z : ℤ). shr_z z (2 ^ bit_and u 31)) ax ∙ ap (λ (k : ℕ). shr_z x (2 ^ k)) (count u v uv))
+  pub or_is : (a b : ℤ) → a ≡ to_int32 x → b ≡ to_int32 y → mag a < 2 ^ 31 → mag b < 2 ^ 31
+      → of_int binary64 (to_z w32 (bit_or (of_z w32 a) (of_z w32 b))) ≡ number_bitwise_or x y
+  unfolding number_bitwise_or
+  or_is a b ax by ha hb = ap (of_int binary64) (bitwise bit_or or_lt x y a b ax by ha hb)
 
-pub shift_right_zero : (a x u v : ℕ) → a ≡ x → u ≡ v → of_int binary64 (pos (a / 2 ^ bit_and u 31)) ≡ of_int binary64 (pos (x / 2 ^ (v % 32)))
-shift_right_zero a x u v ax uv = ap (λ (n : ℕ). of_int binary64 (pos (n / 2 ^ bit_and u 31))) ax ∙ ap (λ (k : ℕ). of_int binary64 (pos (x / 2 ^ k))) (count u v uv)
+  pub xor_is : (a b : ℤ) → a ≡ to_int32 x → b ≡ to_int32 y → mag a < 2 ^ 31 → mag b < 2 ^ 31
+      → of_int binary64 (to_z w32 (bit_xor (of_z w32 a) (of_z w32 b))) ≡ number_bitwise_xor x y
+  unfolding number_bitwise_xor
+  xor_is a b ax by ha hb = ap (of_int binary64) (bitwise bit_xor xor_lt x y a b ax by ha hb)
+
+  pub left_is : (a : ℤ) (u : ℕ) → a ≡ to_int32 x → u ≡ to_uint32 y → mag a < 2 ^ 31
+      → of_int binary64 (to_z w32 (of_z w32 a * 2 ^ bit_and u 31 % 2 ^ 32)) ≡ number_left_shift x y
+  unfolding number_left_shift
+  left_is a u ax uy h =
+      ap (of_int binary64)
+      (sym (integer_of_lem (of_z w32 a * 2 ^ bit_and u 31 % 2 ^ 32) (low_word (of_z w32 a * 2 ^ bit_and u 31)))
+      ∙ ap (λ (n : ℕ). integer_of (n * 2 ^ bit_and u 31 % 2 ^ 32)) (written a x ax h)
+      ∙ ap (λ (k : ℕ). integer_of (bit_string (to_int32 x) * 2 ^ k % 2 ^ 32)) (count u y uy))
+
+  pub right_is : (a : ℤ) (u : ℕ) → a ≡ to_int32 x → u ≡ to_uint32 y → mag a < 2 ^ 31
+      → of_int binary64 (to_z w32 (of_z w32 (shr_z (to_z w32 (of_z w32 a)) (2 ^ bit_and u 31)))) ≡ number_signed_right_shift x y
+  unfolding number_signed_right_shift
+  right_is a u ax uy h =
+      ap (of_int binary64)
+      (ap (λ (z : ℤ). to_z w32 (of_z w32 (shr_z z (2 ^ bit_and u 31)))) (to_z-of_z w32 a (record { sfits = h }))
+      ∙ to_z-of_z w32 (shr_z a (2 ^ bit_and u 31)) (record { sfits = lt_of_le_of_lt (mag_shr a (2 ^ bit_and u 31)) h })
+      ∙ ap (λ (z : ℤ). shr_z z (2 ^ bit_and u 31)) ax ∙ ap (λ (k : ℕ). shr_z (to_int32 x) (2 ^ k)) (count u y uy))
+
+  pub unsigned_is : (u v : ℕ) → u ≡ to_uint32 x → v ≡ to_uint32 y → of_int binary64 (pos (u / 2 ^ bit_and v 31)) ≡ number_unsigned_right_shift x y
+  unfolding number_unsigned_right_shift
+  unsigned_is u v ux vy =
+      ap (λ (n : ℕ). of_int binary64 (pos (n / 2 ^ bit_and v 31))) ux ∙ ap (λ (k : ℕ). of_int binary64 (pos (to_uint32 x / 2 ^ k))) (count v y vy)

@@ -20,6 +20,7 @@ pub fn to_boolean(x: PrimitiveValue) -> bool
 }
 
 // Whether two values are one: the zeros differ, and NaN is itself.
+#[tactic(auto, using(crate::proofs::Sameness::sameness))]
 pub fn same_value(x: PrimitiveValue, y: PrimitiveValue) -> bool
     ensures value { result ≡ same_value (value_of x.entry) (value_of y.entry) }
     ensures decides { Decides result (value_of x.entry ≡ value_of y.entry) }
@@ -40,18 +41,13 @@ pub fn is_strictly_equal(x: PrimitiveValue, y: PrimitiveValue) -> bool
     }
 }
 
-fn to_number(b: bool) -> f64
-    ensures { result ≡ to_number b }
-{
-    f64::from(b)
-}
-
 // The number by which a Boolean or a Number is compared with `==`.
+#[tactic(auto, using(crate::proofs::LooseEquality::number_of_bool))]
 fn numeric(x: PrimitiveValue) -> Option<f64>
     ensures { result ≡ numeric_of (value_of x.entry) }
 {
     match x {
-        PrimitiveValue::Boolean(b) => Some(to_number(b)),
+        PrimitiveValue::Boolean(b) => Some(f64::from(b)),
         PrimitiveValue::Number(n) => Some(n.value()),
         PrimitiveValue::Null | PrimitiveValue::Undefined | PrimitiveValue::String(_) => None,
     }

@@ -2,6 +2,7 @@ ghost use Rattle.std.specs.Float.{binary64};
 ghost use Rattle.std.specs.Prelude.{◌≡◌, ◌^◌, ◌<◌, true, from_bits, is_nan};
 
 mod conversions;
+mod fields;
 
 // A Number by its 64 bits. A NaN has one pattern here, the quiet one with a clear sign and no
 // payload, so that equal bits are the same Number.

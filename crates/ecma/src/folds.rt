@@ -6,8 +6,9 @@ ghost use Rattle.std.specs.Option.{option_map};
 ghost use Rattle.std.specs.Prelude.{◌≡◌, Some, None};
 
 use crate::comparison::{is_loosely_equal, is_strictly_equal, to_boolean};
+use crate::multiples::remainder;
 use crate::number::{
-    bitwise_and, bitwise_or, bitwise_xor, left_shift, less_than, less_than_or_equal, remainder,
+    bitwise_and, bitwise_or, bitwise_xor, left_shift, less_than, less_than_or_equal,
     signed_right_shift, unsigned_right_shift,
 };
 use crate::operators::{BinaryOperator, UnaryOperator, UpdateOperator};

@@ -1,14 +1,9 @@
 ghost use Rattle.ecma.specs.Integer.{to_int32, to_uint32, truncate};
+ghost use Rattle.ecma.specs.Value.{number_of};
 ghost use Rattle.std.specs.Prelude.{◌≡◌, ◌-◌, ◌*◌, ◌/◌, ◌%◌, ◌^◌, ◌≤◌, ◌||◌, nat_le, if◌then◌else◌, from_bits, nat_lt, unsigned_abs};
 ghost use Rattle.std.specs.Float.{binary64};
 
 use crate::float_value::FloatValue;
-
-pub(crate) const EXPONENT: u64 = 0x7ff;
-
-pub(crate) const FRACTION: u64 = 0x000f_ffff_ffff_ffff;
-
-pub(crate) const HIDDEN: u64 = 0x0010_0000_0000_0000;
 
 const LOW_WORD: u64 = 0xffff_ffff;
 
@@ -34,23 +29,15 @@ fn aligned(digits: u64, exponent: u64) -> u64
 }
 
 // The low 32 bits of the whole part, the sign left out.
-fn magnitude(bits: u64) -> u32
-    ensures { result ≡ unsigned_abs (truncate (from_bits binary64 bits)) % 2 ^ 32 }
+fn magnitude(value: FloatValue) -> u32
+    ensures { result ≡ unsigned_abs (truncate (number_of value)) % 2 ^ 32 }
 {
-    let exponent = (bits >> 52) & EXPONENT;
+    let exponent = value.exponent();
     if vanishes(exponent) {
         return 0;
     }
-    let digits = (bits & FRACTION) | HIDDEN;
-    let whole = aligned(digits, exponent);
+    let whole = aligned(value.leading_and_fraction(), exponent);
     (whole & LOW_WORD) as u32
-}
-
-// The top bit is the sign.
-pub(crate) fn is_negative(bits: u64) -> bool
-    ensures { result ≡ nat_le (2 ^ 63) bits }
-{
-    bits >> 63 != 0
 }
 
 // The same low word for the number with its sign.
@@ -63,8 +50,8 @@ fn with_sign(low: u32, negative: bool) -> u32
 pub fn to_uint32(x: f64) -> u32
     ensures { result ≡ to_uint32 x }
 {
-    let bits = FloatValue::new(x).bits();
-    with_sign(magnitude(bits), is_negative(bits))
+    let value = FloatValue::new(x);
+    with_sign(magnitude(value), value.is_negative())
 }
 
 pub fn to_int32(x: f64) -> i32

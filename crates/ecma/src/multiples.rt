@@ -6,10 +6,7 @@ ghost use Rattle.std.specs.Float.{binary64, float_is_finite};
 ghost use Rattle.std.specs.Prelude.{◌≡◌, ◌+◌, ◌-◌, ◌*◌, ◌/◌, ◌%◌, ◌^◌, ◌<◌, ◌≤◌, ◌==◌, true, false, from_bits, nat_lt, nat_le, if◌then◌else◌};
 
 use crate::float_value::FloatValue;
-use crate::int32::{EXPONENT, FRACTION, HIDDEN, is_negative};
 use crate::number::is_zero;
-
-const SIGN: u64 = 0x8000_0000_0000_0000;
 
 // digits * 2^shift multiples of 2^-1074.
 #[derive(Clone, Copy)]
@@ -21,21 +18,20 @@ struct Magnitude {
 }
 
 impl Magnitude {
-    // Of the Number with these bits, the sign left out.
-    fn of(bits: u64) -> Magnitude
-        ensures digits { result.digits ≡ (if bits % 2 ^ 63 / 2 ^ 52 == 0 then bits % 2 ^ 52 else 2 ^ 52 + bits % 2 ^ 52) }
-        ensures shift { result.shift ≡ bits % 2 ^ 63 / 2 ^ 52 - 1 }
+    // Of the Number, the sign left out.
+    fn of(value: FloatValue) -> Magnitude
+        ensures digits { result.digits ≡ (if value.bits % 2 ^ 63 / 2 ^ 52 == 0 then value.bits % 2 ^ 52 else 2 ^ 52 + value.bits % 2 ^ 52) }
+        ensures shift { result.shift ≡ value.bits % 2 ^ 63 / 2 ^ 52 - 1 }
     {
-        let exponent = (bits >> 52) & EXPONENT;
-        let fraction = bits & FRACTION;
+        let exponent = value.exponent();
         if exponent == 0 {
             Magnitude {
-                digits: fraction,
+                digits: value.fraction(),
                 shift: 0,
             }
         } else {
             Magnitude {
-                digits: fraction | HIDDEN,
+                digits: value.leading_and_fraction(),
                 shift: exponent - 1,
             }
         }
@@ -86,18 +82,12 @@ fn power_bits(shift: u64) -> u64
     }
 }
 
-fn sign_bit(negative: bool) -> u64
-    ensures { result ≡ (if negative then 2 ^ 63 else 0) }
-{
-    if negative { SIGN } else { 0 }
-}
-
 // 2^shift multiples of 2^-1074, with a sign.
 fn power(shift: u64, negative: bool) -> f64
     requires { shift ≤ 2046 }
     ensures { result ≡ from_bits binary64 ((if negative then 2 ^ 63 else 0) + (if nat_lt shift 52 then 2 ^ shift else (shift - 51) * 2 ^ 52)) }
 {
-    std::num::f64_from_bits_with_nan(sign_bit(negative) + power_bits(shift))
+    std::num::f64_from_bits_with_nan((u64::from(negative) << 63) + power_bits(shift))
 }
 
 fn finite_remainder(n: f64, d: f64) -> f64
@@ -106,13 +96,13 @@ fn finite_remainder(n: f64, d: f64) -> f64
     requires some { is_zero d ≡ false }
     ensures { result ≡ number_remainder n d }
 {
-    let bits = FloatValue::new(n).bits();
-    let divisor = Magnitude::of(FloatValue::new(d).bits());
-    let left = left_over(Magnitude::of(bits), divisor);
-    left.digits as f64 * power(left.shift, is_negative(bits))
+    let dividend = FloatValue::new(n);
+    let divisor = Magnitude::of(FloatValue::new(d));
+    let left = left_over(Magnitude::of(dividend), divisor);
+    left.digits as f64 * power(left.shift, dividend.is_negative())
 }
 
-pub(crate) fn remainder_of(n: f64, d: f64) -> f64
+pub(crate) fn remainder(n: f64, d: f64) -> f64
     ensures { result ≡ number_remainder n d }
 {
     if !n.is_finite() || d.is_nan() || is_zero(d) {

@@ -1,18 +1,12 @@
-// The operations on Numbers that are more than f64's own, one function for each.
-ghost use Rattle.ecma.specs.Number.{number_bitwise_and, number_bitwise_or, number_bitwise_xor, number_left_shift, number_less_than, number_remainder, number_signed_right_shift, number_unsigned_right_shift, is_zero};
+// The operations on Numbers that are more than f64's own, one function for each. The remainder has a
+// file to itself.
+ghost use Rattle.ecma.specs.Number.{number_bitwise_and, number_bitwise_or, number_bitwise_xor, number_left_shift, number_less_than, number_signed_right_shift, number_unsigned_right_shift, is_zero};
 ghost use Rattle.ecma.specs.Operators.{is_false, is_true};
 ghost use Rattle.std.specs.Prelude.{◌≡◌};
 
 use crate::int32::{to_int32, to_uint32};
-use crate::multiples::remainder_of;
 
 const COUNT: u32 = 0x1f;
-
-pub(crate) fn remainder(n: f64, d: f64) -> f64
-    ensures { result ≡ number_remainder n d }
-{
-    remainder_of(n, d)
-}
 
 #[tactic(auto, using(crate::proofs::Order::eq_zero))]
 pub(crate) fn is_zero(x: f64) -> bool
@@ -34,36 +28,42 @@ pub(crate) fn less_than_or_equal(x: f64, y: f64) -> bool
     x <= y
 }
 
+#[tactic(auto, using(crate::proofs::TwosComplement::and_is))]
 pub(crate) fn bitwise_and(x: f64, y: f64) -> f64
     ensures { result ≡ number_bitwise_and x y }
 {
     (to_int32(x) & to_int32(y)) as f64
 }
 
+#[tactic(auto, using(crate::proofs::TwosComplement::xor_is))]
 pub(crate) fn bitwise_xor(x: f64, y: f64) -> f64
     ensures { result ≡ number_bitwise_xor x y }
 {
     (to_int32(x) ^ to_int32(y)) as f64
 }
 
+#[tactic(auto, using(crate::proofs::TwosComplement::or_is))]
 pub(crate) fn bitwise_or(x: f64, y: f64) -> f64
     ensures { result ≡ number_bitwise_or x y }
 {
     (to_int32(x) | to_int32(y)) as f64
 }
 
+#[tactic(auto, using(crate::proofs::TwosComplement::left_is))]
 pub(crate) fn left_shift(x: f64, y: f64) -> f64
     ensures { result ≡ number_left_shift x y }
 {
     (to_int32(x) << (to_uint32(y) & COUNT)) as f64
 }
 
+#[tactic(auto, using(crate::proofs::TwosComplement::right_is))]
 pub(crate) fn signed_right_shift(x: f64, y: f64) -> f64
     ensures { result ≡ number_signed_right_shift x y }
 {
     (to_int32(x) >> (to_uint32(y) & COUNT)) as f64
 }
 
+#[tactic(auto, using(crate::proofs::TwosComplement::unsigned_is))]
 pub(crate) fn unsigned_right_shift(x: f64, y: f64) -> f64
     ensures { result ≡ number_unsigned_right_shift x y }
 {

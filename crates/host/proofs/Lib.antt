@@ -1,11 +1,8 @@
+mod AsciiTexts
 mod ByClass
 mod DecimalEnd
 mod DigitValue
-mod Every
 mod FloatLiterals
 mod NumberKinds
-mod Searches
 mod WholeNumber
 mod WholeText
-mod Words
-mod Wrote

@@ -1,7 +1,9 @@
 -- The maps of the digit host: Number::toString, StringToNumber and the names of ECMA-262, each on a part of its ground.
-use Rattle.std.specs.Prelude.{ℕ, zero, suc, ◌-◌, ◌*◌, ◌/◌, ◌%◌, ◌^◌, Bool, true, false, cond, not, ◌&&◌, ◌||◌, List, [], ◌∷◌, length, pos, Some, None, codes, decimal, Option, ◌==◌, nat_le, nat_lt, Float}
+use Rattle.std.specs.Prelude.{ℕ, zero, suc, ◌-◌, ◌*◌, ◌/◌, ◌%◌, ◌^◌, Bool, true, false, cond, not, ◌&&◌, ◌||◌, List, [], ◌∷◌, length, pos, Some, None, codes, decimal, Option, ◌==◌, nat_le, Float}
 use Rattle.std.specs.Float.{nan, inf, fin, binary64}
 use Rattle.std.specs.Float.Ieee.{up, down, neg, of_int}
+use Rattle.std.specs.Char.{is_ascii}
+use Rattle.std.specs.List.{list_all, list_any}
 use Rattle.std.specs.Str.Parse.{digits_value}
 use Rattle.std.specs.Str.{bytes_eq}
 use Rattle.text.specs.Classes.{is_digit, is_name_start}
@@ -20,10 +22,6 @@ number_text (fin s m e) = cond (m * up e % down e == 0 && nat_le (m * up e / dow
 
 -- ---- the number of a text: of the empty one, and of an optional sign with 1 to 15 digits or with Infinity
 
-abbrev pub all : (ℕ → Bool) → List ℕ → Bool
-all p [] = true
-all p (b ∷ bs) = p b && all p bs
-
 -- n with a sign; a negative zero is -0
 abbrev pub signed_number : Bool → ℕ → Float
 signed_number s n = cond s (neg (of_int binary64 (pos n))) (of_int binary64 (pos n))
@@ -31,7 +29,7 @@ signed_number s n = cond s (neg (of_int binary64 (pos n))) (of_int binary64 (pos
 abbrev pub unsigned_text : Bool → List ℕ → Option Float
 unsigned_text s t =
     cond (bytes_eq t (codes "Infinity")) (Some (inf s))
-    (cond (all is_digit t && (nat_le 1 (length t) && nat_le (length t) 15)) (Some (signed_number s (digits_value 10 t))) None)
+    (cond (list_all is_digit t && (nat_le 1 (length t) && nat_le (length t) 15)) (Some (signed_number s (digits_value 10 t))) None)
 
 abbrev pub text_number : List ℕ → Option Float
 text_number [] = Some (signed_number false 0)
@@ -41,7 +39,7 @@ text_number (b ∷ t) = cond (b == 45) (unsigned_text true t) (cond (b == 43) (u
 
 abbrev pub is_identifier_name : List ℕ → Bool
 is_identifier_name [] = false
-is_identifier_name (b ∷ t) = is_name_start b && all (λ c. is_name_start c || is_digit c) t
+is_identifier_name (b ∷ t) = is_name_start b && list_all (λ c. is_name_start c || is_digit c) t
 
 abbrev pub reserved_words : List (List ℕ)
 reserved_words =
@@ -51,9 +49,8 @@ reserved_words =
     ∷ codes "switch" ∷ codes "this" ∷ codes "throw" ∷ codes "true" ∷ codes "try" ∷ codes "typeof" ∷ codes "var" ∷ codes "void" ∷ codes "while"
     ∷ codes "with" ∷ codes "yield" ∷ []
 
-abbrev pub among : List ℕ → List (List ℕ) → Bool
-among t [] = false
-among t (w ∷ ws) = bytes_eq t w || among t ws
+abbrev pub is_reserved : List ℕ → Bool
+is_reserved t = list_any (λ w. bytes_eq w t) reserved_words
 
 abbrev pub is_name : List ℕ → Option Bool
-is_name t = cond (all (λ b. nat_lt b 128) t) (Some (is_identifier_name t && not (among t reserved_words))) None
+is_name t = cond (list_all is_ascii t) (Some (is_identifier_name t && not (is_reserved t))) None

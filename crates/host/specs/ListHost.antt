@@ -1,28 +1,19 @@
 -- The maps of the list host: the first entry that matches, in lists that are handed in.
-use Rattle.std.specs.Prelude.{ℕ, Bool, cond, ◌&&◌, List, [], ◌∷◌, length, Some, None, Option, nat_le, Float}
-use Rattle.std.proofs.Math.Utf8.{encodes, scalars}
+use Rattle.std.specs.Prelude.{ℕ, Bool, ◌&&◌, List, length, Option, nat_le, Float}
 use Rattle.ecma.specs.Number.{number_same_value}
 use Rattle.host.specs.declared.list.NameEntry.{NameEntry}
 use Rattle.host.specs.declared.list.NumberEntry.{NumberEntry}
 use Rattle.host.specs.declared.list.TextEntry.{TextEntry}
+use Rattle.std.specs.List.{find}
 use Rattle.std.specs.Option.{option_map}
-use Rattle.std.specs.Str.{chars, bytes_eq}
-
--- the first entry that passes
-abbrev pub first_of : {A : Type 0} → (A → Bool) → List A → Option A
-first_of p [] = None
-first_of p (x ∷ xs) = cond (p x) (Some x) (first_of p xs)
-
--- whether bytes are UTF-8: what they decode to are characters, and encodes to them
-abbrev pub is_utf8 : List ℕ → Bool
-is_utf8 bs = scalars (chars bs) && bytes_eq (encodes (chars bs)) bs
+use Rattle.std.specs.Str.{bytes_eq, is_utf8}
 
 -- Numbers match by SameValue. An entry whose text has more than 32 bytes, or is not UTF-8, is passed over.
 abbrev pub listed_text : List TextEntry → Float → Option (List ℕ)
-listed_text es x = option_map (λ e. e.text.now) (first_of (λ e. number_same_value x e.number && (nat_le (length e.text.now) 32 && is_utf8 e.text.now)) es)
+listed_text es x = option_map (λ e. e.text.now) (find (λ e. number_same_value x e.number && (nat_le (length e.text.now) 32 && is_utf8 e.text.now)) es)
 
 abbrev pub listed_number : List NumberEntry → List ℕ → Option Float
-listed_number es t = option_map (λ e. e.number) (first_of (λ e. bytes_eq t e.text.now) es)
+listed_number es t = option_map (λ e. e.number) (find (λ e. bytes_eq t e.text.now) es)
 
 abbrev pub listed_name : List NameEntry → List ℕ → Option Bool
-listed_name es t = option_map (λ e. e.valid) (first_of (λ e. bytes_eq t e.text.now) es)
+listed_name es t = option_map (λ e. e.valid) (find (λ e. bytes_eq t e.text.now) es)

@@ -1,38 +1,30 @@
--- The test of UTF-8 decides it, and every text that is listed for a number is bounded.
-use Rattle.std.specs.Prelude.{◌≡◌, ℕ, Bool, true, cond, ◌&&◌, nat_le, List, [], ◌∷◌, length, Some, IsUtf8, Decides, Float}
+-- Every text that is listed for a number is bounded.
+use Rattle.std.specs.Prelude.{◌≡◌, ℕ, Bool, true, cond, ◌&&◌, nat_le, List, [], ◌∷◌, length, Some, Float}
 use Rattle.std.proofs.Common.{sym, ap, ◌∙◌, subst, ⊎_elim, arith}
-use Rattle.std.proofs.Math.Utf8.{encodes}
 use Rattle.ecma.specs.Number.{number_same_value}
 use Rattle.host.specs.Answers.{Bounded}
 use Rattle.host.specs.declared.list.TextEntry.{TextEntry}
-use Rattle.host.specs.ListHost.{first_of, is_utf8, listed_text}
-use Rattle.std.proofs.lemmas.Slice.Eq.{bytes_eq-Decides}
-use Rattle.std.proofs.lemmas.Bool.{cases_Bool, and_from, and_parts, leb-true}
-use Rattle.std.proofs.lemmas.Str.{encodes-chars, scalars-chars}
+use Rattle.host.specs.ListHost.{listed_text}
+use Rattle.std.proofs.lemmas.Bool.{cases_Bool, and_parts, leb-true}
+use Rattle.std.proofs.lemmas.Str.{IsUtf8-from_is_utf8}
+use Rattle.std.specs.List.{find}
 use Rattle.std.specs.Option.{option_map}
-use Rattle.std.specs.Str.{chars}
+use Rattle.std.specs.Str.{is_utf8}
 
 -- what holds at each entry that passes holds of the answer
 pub of_answer :
     {A B : Type 0} (p : A → Bool) (f : A → B) (P : B → Type 0) → ((x : A) → p x ≡ true → P (f x))
-    → (xs : List A) (y : B) → option_map f (first_of p xs) ≡ Some y → P y
+    → (xs : List A) (y : B) → option_map f (find p xs) ≡ Some y → P y
 of_answer p f P h [] y e = let z : ◌≡◌ {A = ℕ} 0 1 = cc in absurd (omega arith)
 of_answer p f P h (x ∷ xs) y e =
-    let F = λ (b : Bool). option_map f (cond b (Some x) (first_of p xs)) in
+    let F = λ (b : Bool). option_map f (cond b (Some x) (find p xs)) in
     ⊎_elim
     (λ t. let s = sym (ap F t) ∙ e in let k : f x ≡ y = cc in subst P k (h x t))
     (λ u. of_answer p f P h xs y (sym (ap F u) ∙ e))
     (cases_Bool (p x))
 
-pub is_utf8-decides : (bs : List ℕ) → Decides (is_utf8 bs) (IsUtf8 bs)
-is_utf8-decides bs =
-    let same = bytes_eq-Decides (encodes (chars bs)) bs in (
-      λ e. let p = and_parts _ _ e in (chars bs, (p.0, same.0 p.1)),
-      λ u. and_from _ _ (scalars-chars bs u) (same.1 (encodes-chars bs u)),
-    )
-
 pub listed_bounded : (es : List TextEntry) (x : Float) (t : List ℕ) → listed_text es x ≡ Some t → Bounded t
 listed_bounded es x t e =
     of_answer (λ (s : TextEntry). number_same_value x s.number && (nat_le (length s.text.now) 32 && is_utf8 s.text.now)) (λ (s : TextEntry). s.text.now) Bounded
-    (λ s h. let p = and_parts _ _ (and_parts _ _ h).1 in record { short = leb-true _ _ p.0; valid = (is_utf8-decides s.text.now).0 p.1 })
+    (λ s h. let p = and_parts _ _ (and_parts _ _ h).1 in record { short = leb-true _ _ p.0; valid = IsUtf8-from_is_utf8 s.text.now p.1 })
     es t e

@@ -1,22 +1,28 @@
 -- Each text of a number has at most 32 bytes, and all of them are ASCII.
-use Rattle.std.specs.Prelude.{◌≡◌, ℕ, zero, suc, ◌-◌, ◌*◌, ◌/◌, ◌%◌, ◌^◌, ◌<◌, ◌≤◌, Bool, true, false, cond, ◌&&◌, List, ◌∷◌, length, Some, None, codes, decimal, ◌==◌, nat_le, nat_lt, Float, refl}
+use Rattle.std.specs.Prelude.{◌≡◌, ℕ, zero, suc, ◌-◌, ◌*◌, ◌/◌, ◌%◌, ◌^◌, ◌<◌, ◌≤◌, Bool, true, false, cond, ◌&&◌, List, ◌∷◌, length, Some, None, codes, decimal, ◌==◌, nat_le, Float, Decides, refl}
 use Rattle.std.specs.Float.{nan, inf, fin}
 use Rattle.std.specs.Float.Ieee.{up, down}
 use Rattle.std.proofs.Common.{subst, arith}
 use Rattle.host.specs.Answers.{Bounded}
-use Rattle.host.specs.DigitHost.{all, number_text, whole_text}
+use Rattle.host.specs.DigitHost.{number_text, whole_text}
 use Rattle.std.proofs.lemmas.Str.Ascii.{IsAscii-cons}
-use Rattle.std.proofs.ByRecursion.{IsAscii-from_all, Decides-by_and}
 use Rattle.std.proofs.lemmas.Fmt.{IsAscii-decimal, length-decimal-le}
 use Rattle.std.proofs.lemmas.Bool.{and_parts, leb-true}
 use Rattle.std.proofs.lemmas.Str.{IsUtf8-from_ascii}
 use Rattle.std.proofs.lemmas.Bool.Decides.{Decides-ltb}
+use Rattle.std.proofs.ByRecursion.{IsAscii-from_all, All-from_ascii, Decides-by_and}
+use Rattle.std.specs.Char.{is_ascii}
+use Rattle.std.specs.List.{list_all}
+use Rattle.std.specs.Str.{IsAscii}
 
-fixed : (t : List ℕ) → nat_le (length t) 32 ≡ true → all (λ b. nat_lt b 128) t ≡ true → Bounded t
-fixed t h a = record {
-  short = leb-true (length t) 32 h;
-  valid = IsUtf8-from_ascii t (IsAscii-from_all t ((Decides-by_and (λ b. nat_lt b 128) (λ b. b < 128) (all (λ b. nat_lt b 128)) (λ b. Decides-ltb b 128) refl (λ _ _. refl) t).0 a));
-}
+-- the test of each byte decides whether a text is ASCII
+pub all_ascii : (t : List ℕ) → Decides (list_all is_ascii t) (IsAscii t)
+all_ascii t =
+    let each = Decides-by_and is_ascii (λ b. b < 128) (list_all is_ascii) (λ b. Decides-ltb b 128) refl (λ _ _. refl) t in
+    (λ e. IsAscii-from_all t (each.0 e), λ h. each.1 (All-from_ascii t h))
+
+fixed : (t : List ℕ) → nat_le (length t) 32 ≡ true → list_all is_ascii t ≡ true → Bounded t
+fixed t h a = record { short = leb-true (length t) 32 h; valid = IsUtf8-from_ascii t ((all_ascii t).0 a) }
 
 digits : (n : ℕ) → n ≤ 2 ^ 53 - 1 → Bounded (decimal n)
 digits n h =

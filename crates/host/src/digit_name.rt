@@ -1,7 +1,8 @@
 // Names: an IdentifierName in ASCII that is no reserved word.
-ghost use Rattle.host.specs.DigitHost.{all, among, is_identifier_name, is_name, reserved_words};
+ghost use Rattle.host.specs.DigitHost.{is_identifier_name, is_name, is_reserved};
+ghost use Rattle.std.specs.List.{list_all};
+ghost use Rattle.std.specs.Prelude.{◌≡◌, ◌||◌};
 ghost use Rattle.text.specs.Classes.{is_digit, is_name_start};
-ghost use Rattle.std.specs.Prelude.{◌≡◌, ◌||◌, map, nat_lt};
 
 use text::class::class;
 
@@ -47,59 +48,40 @@ const RESERVED: [&[u8]; 38] = [
 ];
 
 // Whether the text is a valid name, where it is ASCII.
+#[tactic(auto, using(crate::proofs::AsciiTexts::ascii, crate::proofs::AsciiTexts::not_ascii))]
 pub fn is_name(text: &[u8]) -> Option<bool>
     ensures { result ≡ is_name text.now }
 {
-    if !is_ascii(text) {
+    if !text.is_ascii() {
         return None;
     }
     Some(is_identifier_name(text) && !is_reserved(text))
 }
 
-fn is_ascii(text: &[u8]) -> bool
-    ensures { result ≡ all (λ b. nat_lt b 128) text.now }
-{
-    for byte in text {
-        if !byte.is_ascii() {
-            return false;
-        }
-    }
-    true
-}
-
 fn is_identifier_name(text: &[u8]) -> bool
     ensures { result ≡ is_identifier_name text.now }
 {
-    let Some((first, rest)) = text.split_first() else {
+    let [first, rest @ ..] = text else {
         return false;
     };
     class(*first).is_name_start() && are_name_parts(rest)
 }
 
 fn are_name_parts(text: &[u8]) -> bool
-    ensures { result ≡ all (λ c. is_name_start c || is_digit c) text.now }
+    ensures { result ≡ list_all (λ c. is_name_start c || is_digit c) text.now }
 {
-    for byte in text {
-        if !class(*byte).is_name_part() {
-            return false;
-        }
-    }
-    true
+    text.iter().all(|byte| is_name_part(*byte))
+}
+
+#[tactic(auto, using(crate::proofs::ByClass::of_part))]
+fn is_name_part(byte: u8) -> bool
+    ensures { result ≡ (is_name_start byte || is_digit byte) }
+{
+    class(byte).is_name_part()
 }
 
 fn is_reserved(text: &[u8]) -> bool
-    ensures { result ≡ among text.now reserved_words }
+    ensures { result ≡ is_reserved text.now }
 {
-    is_among(text, &RESERVED)
-}
-
-fn is_among(text: &[u8], words: &[&[u8]]) -> bool
-    ensures { result ≡ among text.now (map (λ x. x.now) words.now) }
-{
-    for word in words {
-        if text == *word {
-            return true;
-        }
-    }
-    false
+    RESERVED.contains(&text)
 }

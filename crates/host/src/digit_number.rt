@@ -1,6 +1,8 @@
 // The number of a text: of the empty one, and of an optional sign with 1 to 15 digits or Infinity.
-ghost use Rattle.std.specs.Prelude.{◌≡◌, ◌^◌, ◌<◌, ◌≤◌, ◌&&◌, length, IfSome, if◌then◌else◌, Some, None, nat_le};
-ghost use Rattle.host.specs.DigitHost.{all, signed_number, text_number, unsigned_text};
+ghost use Rattle.std.specs.Prelude.{◌≡◌, ◌-◌, ◌^◌, ◌<◌, ◌≤◌, ◌&&◌, length, if◌then◌else◌, Some, None, nat_le};
+ghost use Rattle.host.specs.DigitHost.{signed_number, text_number, unsigned_text};
+ghost use Rattle.std.specs.List.{list_all};
+ghost use Rattle.std.specs.Option.{option_map};
 ghost use Rattle.std.specs.Str.Parse.{digits_value};
 ghost use Rattle.text.specs.Classes.{is_digit};
 ghost use Rattle.std.specs.Float.{inf};
@@ -10,6 +12,45 @@ use text::class::class;
 // So many digits write a number that a float holds.
 const MOST_DIGITS: usize = 15;
 
+// The number that so many digits write.
+#[derive(Clone, Copy)]
+struct ShortNumber {
+    value: u64,
+    ghost small: { value < 10 ^ 15 },
+}
+
+impl ShortNumber {
+    // The value of 1 to 15 digits.
+    fn of_text(text: &[u8]) -> Option<ShortNumber>
+        ensures { option_map (λ n. n.value) result ≡ (if list_all is_digit text.now && (nat_le 1 (length text.now) && nat_le (length text.now) 15) then Some (digits_value 10 text.now) else None) }
+    {
+        if text.is_empty() || text.len() > MOST_DIGITS {
+            return None;
+        }
+        ShortNumber::of_digits(text)
+    }
+
+    #[tactic(auto, using(crate::proofs::DigitValue::below_before, crate::proofs::DigitValue::below_whole, crate::proofs::DigitValue::one_more))]
+    fn of_digits(text: &[u8]) -> Option<ShortNumber>
+        requires { length text.now ≤ 15 }
+        ensures { option_map (λ n. n.value) result ≡ (if list_all is_digit text.now then Some (digits_value 10 text.now) else None) }
+    {
+        let mut value = 0;
+        for byte in text {
+            value = value * 10 + digit(*byte)?;
+        }
+        Some(ShortNumber { value })
+    }
+
+    fn with_sign(self, minus: bool) -> f64
+        ensures { result ≡ signed_number minus self.value }
+    {
+        let number = self.value as f64;
+        if minus { -number } else { number }
+    }
+}
+
+#[tactic(auto, using(crate::proofs::FloatLiterals::zero_bits))]
 pub fn text_number(text: &[u8]) -> Option<f64>
     ensures { result ≡ text_number text.now }
 {
@@ -29,10 +70,11 @@ fn number_after_sign(minus: bool, text: &[u8]) -> Option<f64>
     if text == b"Infinity".as_slice() {
         return Some(infinity(minus));
     }
-    let number = short_value(text)?;
-    Some(signed_number(minus, number))
+    let number = ShortNumber::of_text(text)?;
+    Some(number.with_sign(minus))
 }
 
+#[tactic(auto, using(crate::proofs::FloatLiterals::infinity_bits, crate::proofs::FloatLiterals::minus_infinity_bits))]
 fn infinity(minus: bool) -> f64
     ensures { result ≡ inf minus }
 {
@@ -43,36 +85,13 @@ fn infinity(minus: bool) -> f64
     }
 }
 
-fn signed_number(minus: bool, number: u64) -> f64
-    requires { number < 10 ^ 15 }
-    ensures { result ≡ signed_number minus number }
+#[tactic(auto, using(crate::proofs::ByClass::of_digit))]
+fn digit(byte: u8) -> Option<u64>
+    ensures { result ≡ (if is_digit byte then Some (byte - 48) else None) }
 {
-    let number = number as f64;
-    if minus { -number } else { number }
-}
-
-// The value of 1 to 15 digits.
-fn short_value(text: &[u8]) -> Option<u64>
-    ensures value { result ≡ (if all is_digit text.now && (nat_le 1 (length text.now) && nat_le (length text.now) 15) then Some (digits_value 10 text.now) else None) }
-    ensures small { IfSome result (λ n. n < 10 ^ 15) }
-{
-    if text.is_empty() || text.len() > MOST_DIGITS {
-        return None;
+    if class(byte).is_digit() {
+        Some(u64::from(byte - b'0'))
+    } else {
+        None
     }
-    digits_value(text)
-}
-
-fn digits_value(text: &[u8]) -> Option<u64>
-    requires { length text.now ≤ 15 }
-    ensures value { result ≡ (if all is_digit text.now then Some (digits_value 10 text.now) else None) }
-    ensures small { IfSome result (λ n. n < 10 ^ 15) }
-{
-    let mut value = 0;
-    for byte in text {
-        if !class(*byte).is_digit() {
-            return None;
-        }
-        value = value * 10 + u64::from(*byte - b'0');
-    }
-    Some(value)
 }

@@ -9,6 +9,7 @@ mod examples;
 mod host;
 mod list;
 mod pair;
+mod write_text;
 
 pub use digit::DigitHost;
 pub use examples::worked_examples;

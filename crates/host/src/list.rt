@@ -1,20 +1,20 @@
 // A host that answers from lists.
-ghost use Rattle.std.specs.Prelude.{◌≡◌, ◌≤◌, ◌&&◌, ◌++◌, length, drop, nat_le};
+ghost use Rattle.std.specs.Prelude.{◌≡◌, ◌&&◌, length, nat_le};
 ghost use Rattle.ecma.specs.Number.{number_same_value};
-ghost use Rattle.ecma.specs.declared.primitive_value.PrimitiveValue.TheVariants.{Number};
-ghost use Rattle.host.specs.ListHost.{is_utf8, listed_name, listed_number, listed_text};
+ghost use Rattle.host.specs.ListHost.{listed_name, listed_number, listed_text};
 ghost use Rattle.host.specs.ListedTexts.{listed_bounded};
 ghost use Rattle.std.specs.Option.{option_map};
-ghost use Rattle.std.specs.Str.{bytes_eq};
+ghost use Rattle.std.specs.Str.{is_utf8};
 
 use crate::host::Host;
-use ecma::{PrimitiveValue, same_value};
+use crate::write_text::write_text;
+use ecma::same_value;
 use text::is_utf8;
 
 // The text of a number is no longer.
 const LONGEST: usize = 32;
 
-// The text of a number.
+// The text of a number. The entries' types differ by their fields' names, which say what each list holds.
 #[derive(Clone, Copy)]
 pub struct TextEntry<'a> {
     pub number: f64,
@@ -52,14 +52,10 @@ impl Host for ListHost<'_> {
 
     ghost bounded = { λ h x t e. listed_bounded h.texts.now x t e };
 
+    #[tactic(auto, using(crate::specs::ListedTexts::listed_bounded))]
     fn number_text(&self, number: f64, buffer: &mut [u8; 32]) -> Option<usize> {
-        match find_text(self.texts, number) {
-            Some(text) => {
-                put(buffer, text);
-                Some(text.len())
-            }
-            None => None,
-        }
+        let text = find_text(self.texts, number)?;
+        Some(write_text(text, buffer))
     }
 
     fn text_number(&self, text: &[u8]) -> Option<f64> {
@@ -74,34 +70,28 @@ impl Host for ListHost<'_> {
 fn find_text<'a>(entries: &[TextEntry<'a>], number: f64) -> Option<&'a [u8]>
     ensures { option_map (λ t. t.now) result ≡ listed_text entries.now number }
 {
-    for entry in entries {
-        if has_text(entry, number) {
-            return Some(entry.text);
-        }
-    }
-    None
+    entries
+        .iter()
+        .find(|entry| has_text(entry, number))
+        .map(|entry| entry.text)
 }
 
 fn find_number(entries: &[NumberEntry], text: &[u8]) -> Option<f64>
     ensures { result ≡ listed_number entries.now text.now }
 {
-    for entry in entries {
-        if same_text(text, entry.text) {
-            return Some(entry.number);
-        }
-    }
-    None
+    entries
+        .iter()
+        .find(|entry| entry.text == text)
+        .map(|entry| entry.number)
 }
 
 fn find_name(entries: &[NameEntry], text: &[u8]) -> Option<bool>
     ensures { result ≡ listed_name entries.now text.now }
 {
-    for entry in entries {
-        if same_text(text, entry.text) {
-            return Some(entry.valid);
-        }
-    }
-    None
+    entries
+        .iter()
+        .find(|entry| entry.text == text)
+        .map(|entry| entry.valid)
 }
 
 // Whether the entry has a text for the number.
@@ -114,19 +104,7 @@ fn has_text(entry: &TextEntry, number: f64) -> bool
 fn same_number(a: f64, b: f64) -> bool
     ensures { result ≡ number_same_value a b }
 {
-    same_value(number_value(a), number_value(b))
-}
-
-fn number_value(x: f64) -> PrimitiveValue<'static>
-    ensures { result ≡ Number x }
-{
-    PrimitiveValue::Number(x)
-}
-
-fn same_text(a: &[u8], b: &[u8]) -> bool
-    ensures { result ≡ bytes_eq a.now b.now }
-{
-    a == b
+    same_value(a.into(), b.into())
 }
 
 // Whether bytes can be the text of a number: at most 32, and UTF-8.
@@ -134,12 +112,4 @@ fn is_text(bytes: &[u8]) -> bool
     ensures { result ≡ (nat_le (length bytes.now) 32 && is_utf8 bytes.now) }
 {
     bytes.len() <= LONGEST && is_utf8(bytes)
-}
-
-// Writes the text to the front of the buffer.
-fn put(buffer: &mut [u8; 32], text: &[u8])
-    requires { length text.now ≤ 32 }
-    ensures { buffer.new ≡ text.now ++ drop (length text.now) buffer.old }
-{
-    buffer[0..text.len()].copy_from_slice(text);
 }

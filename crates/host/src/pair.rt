@@ -19,6 +19,7 @@ impl<X: Host, Y: Host> Host for PairHost<X, Y> {
 
     ghost bounded = { λ h x t e. either Bounded (X.Host.texts h.first x) (Y.Host.texts h.second x) t (X.Host.bounded h.first x t) (Y.Host.bounded h.second x t) e };
 
+    // No `or_else`: where it does not call a closure that borrows the buffer, nothing is known of the buffer.
     fn number_text(&self, number: f64, buffer: &mut [u8; 32]) -> Option<usize> {
         match self.first.number_text(number, buffer) {
             Some(length) => Some(length),
@@ -27,16 +28,14 @@ impl<X: Host, Y: Host> Host for PairHost<X, Y> {
     }
 
     fn text_number(&self, text: &[u8]) -> Option<f64> {
-        match self.first.text_number(text) {
-            Some(number) => Some(number),
-            None => self.second.text_number(text),
-        }
+        self.first
+            .text_number(text)
+            .or_else(|| self.second.text_number(text))
     }
 
     fn is_name(&self, text: &[u8]) -> Option<bool> {
-        match self.first.is_name(text) {
-            Some(judged) => Some(judged),
-            None => self.second.is_name(text),
-        }
+        self.first
+            .is_name(text)
+            .or_else(|| self.second.is_name(text))
     }
 }

@@ -1,7 +1,6 @@
--- The UTF-8 sequence at a place in bytes that need not be UTF-8.
-use Rattle.std.specs.Prelude.{ℕ, ◌+◌, Bool, true, false, cond, ◌&&◌, List, Some, None, Option, ◌==◌, slice_index}
+-- The UTF-8 sequence that bytes begin with.
+use Rattle.std.specs.Prelude.{ℕ, Bool, cond, ◌&&◌, List, [], ◌∷◌, Some, None, Option, ◌==◌}
 use Rattle.std.specs.Int.{is_in_range}
-use Rattle.text.specs.ClassTests.{sequence_length}
 use Rattle.text.specs.Classes.{class_of}
 use Rattle.text.specs.declared.class.ByteClass.{ByteClass}
 use Rattle.text.specs.declared.class.ByteClass.TheVariants.{Digit, NameStart, Ascii, Continuation, Lead2, Lead3, Lead4, Never}
@@ -18,17 +17,24 @@ is_second lead b =
     (cond (lead == 240) (is_in_range 144 191 b)
     (cond (lead == 244) (is_in_range 128 143 b) (is_continuation b))))
 
--- that the bytes after the first, whose class is given, complete its sequence
-abbrev pub is_whole : ByteClass → List ℕ → ℕ → Bool
-is_whole Digit bs i = true
-is_whole NameStart bs i = true
-is_whole Ascii bs i = true
-is_whole Continuation bs i = false
-is_whole Lead2 bs i = is_second (slice_index bs i) (slice_index bs (i + 1))
-is_whole Lead3 bs i = is_second (slice_index bs i) (slice_index bs (i + 1)) && is_continuation (slice_index bs (i + 2))
-is_whole Lead4 bs i = is_second (slice_index bs i) (slice_index bs (i + 1)) && (is_continuation (slice_index bs (i + 2)) && is_continuation (slice_index bs (i + 3)))
-is_whole Never bs i = false
+-- what stands after the first sequence: the class of its first byte, that byte and what follows it are given
+abbrev pub after_lead : ByteClass → ℕ → List ℕ → Option (List ℕ)
+after_lead Digit a rest = Some rest
+after_lead NameStart a rest = Some rest
+after_lead Ascii a rest = Some rest
+after_lead Continuation a rest = None
+after_lead Lead2 a (b ∷ rest) = cond (is_second a b) (Some rest) None
+after_lead Lead2 a [] = None
+after_lead Lead3 a (b ∷ c ∷ rest) = cond (is_second a b && is_continuation c) (Some rest) None
+after_lead Lead3 a (b ∷ []) = None
+after_lead Lead3 a [] = None
+after_lead Lead4 a (b ∷ c ∷ d ∷ rest) = cond (is_second a b && (is_continuation c && is_continuation d)) (Some rest) None
+after_lead Lead4 a (b ∷ c ∷ []) = None
+after_lead Lead4 a (b ∷ []) = None
+after_lead Lead4 a [] = None
+after_lead Never a rest = None
 
--- the length of the sequence that begins there
-abbrev pub sequence_at : List ℕ → ℕ → Option ℕ
-sequence_at bs i = let class = class_of (slice_index bs i) in cond (is_whole class bs i) (Some (sequence_length class)) None
+-- what stands after the sequence that bytes begin with; they need not be UTF-8
+abbrev pub after_sequence : List ℕ → Option (List ℕ)
+after_sequence [] = None
+after_sequence (a ∷ rest) = after_lead (class_of a) a rest

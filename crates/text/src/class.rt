@@ -8,7 +8,7 @@ use ByteClass::{
     NameStart as Na, Never as No,
 };
 
-#[derive(Clone, Copy)]
+#[derive(Clone, Copy, PartialEq, Eq, Debug)]
 pub enum ByteClass {
     Digit,
     NameStart,
@@ -24,9 +24,9 @@ pub enum ByteClass {
     Never,
 }
 
-// By the byte, sixteen to a row. Not a `const`, which is built again at each use.
+// By the byte, sixteen to a row. Behind a reference, since a `const` array is built again at each use.
 #[rattlefmt::skip]
-static CLASSES: [ByteClass; 256] = [
+const CLASSES: &[ByteClass; 256] = &[
     As, As, As, As, As, As, As, As, As, As, As, As, As, As, As, As, // 00
     As, As, As, As, As, As, As, As, As, As, As, As, As, As, As, As, // 10
     As, As, As, As, Na, As, As, As, As, As, As, As, As, As, As, As, // 20

@@ -1,15 +1,9 @@
 // Which bytes are UTF-8.
-ghost use Rattle.std.specs.Prelude.{◌≡◌, ◌<◌, length, IsUtf8, Decides, slice_index};
-ghost use Rattle.text.specs.Sequences.{is_continuation, is_second, is_whole, sequence_at};
+ghost use Rattle.std.specs.Prelude.{◌≡◌, IsUtf8, Decides};
+ghost use Rattle.std.specs.Option.{option_map};
+ghost use Rattle.text.specs.Sequences.{after_sequence, is_continuation, is_second};
 
 use crate::class::{ByteClass, class};
-
-// 0 past the end, which continues no sequence.
-fn byte_at(bytes: &[u8], at: usize) -> u8
-    ensures { result ≡ slice_index bytes.now at }
-{
-    if at < bytes.len() { bytes[at] } else { 0 }
-}
 
 fn is_continuation(byte: u8) -> bool
     ensures { result ≡ is_continuation byte }
@@ -29,45 +23,33 @@ fn is_second(lead: u8, byte: u8) -> bool
     }
 }
 
-// Whether the bytes after the first, whose class is given, complete its sequence.
-fn is_whole(class: ByteClass, bytes: &[u8], at: usize) -> bool
-    requires { at < length bytes.now }
-    ensures { result ≡ is_whole class bytes.now at }
+// What stands after the sequence that the bytes begin with.
+fn after_sequence(bytes: &[u8]) -> Option<&[u8]>
+    ensures { option_map (λ rest. rest.now) result ≡ after_sequence bytes.now }
 {
-    match class {
-        ByteClass::Digit | ByteClass::NameStart | ByteClass::Ascii => true,
-        ByteClass::Lead2 => is_second(bytes[at], byte_at(bytes, at + 1)),
-        ByteClass::Lead3 => is_second(bytes[at], byte_at(bytes, at + 1))
-            && is_continuation(byte_at(bytes, at + 2)),
-        ByteClass::Lead4 => is_second(bytes[at], byte_at(bytes, at + 1))
-            && is_continuation(byte_at(bytes, at + 2))
-            && is_continuation(byte_at(bytes, at + 3)),
-        ByteClass::Continuation | ByteClass::Never => false,
-    }
-}
-
-// The length of the sequence that begins at `at`.
-fn sequence_at(bytes: &[u8], at: usize) -> Option<usize>
-    requires { at < length bytes.now }
-    ensures { result ≡ sequence_at bytes.now at }
-{
-    let class = class(bytes[at]);
-    if is_whole(class, bytes, at) {
-        Some(class.sequence_length())
-    } else {
-        None
+    let (lead, rest) = bytes.split_first()?;
+    match (class(*lead), rest) {
+        (ByteClass::Digit | ByteClass::NameStart | ByteClass::Ascii, _) => Some(rest),
+        (ByteClass::Lead2, [second, rest @ ..]) if is_second(*lead, *second) => Some(rest),
+        (ByteClass::Lead3, [second, third, rest @ ..])
+            if is_second(*lead, *second) && is_continuation(*third) => { Some(rest) }
+        (ByteClass::Lead4, [second, third, fourth, rest @ ..])
+            if is_second(*lead, *second) && is_continuation(*third) && is_continuation(*fourth) => {
+            Some(rest)
+        }
+        _ => None,
     }
 }
 
 pub fn is_utf8(bytes: &[u8]) -> bool
     ensures { Decides result (IsUtf8 bytes.now) }
 {
-    let mut at = 0;
-    while at < bytes.len() {
-        let Some(length) = sequence_at(bytes, at) else {
+    let mut rest = bytes;
+    while !rest.is_empty() {
+        let Some(after) = after_sequence(rest) else {
             return false;
         };
-        at += length;
+        rest = after;
     }
     true
 }

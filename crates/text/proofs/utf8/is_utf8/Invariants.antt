@@ -1,9 +1,9 @@
--- The bytes up to the place reached are text.
-use Rattle.std.proofs.Common.{◌-◌, ◌≤◌, length, take, IsUtf8}
+-- What is left is a text exactly where the whole is.
+use Rattle.std.proofs.Common.{length, IsUtf8}
 use Rattle.text.proofs.utf8.is_utf8.Given as goal
 
-abbrev pub invariant-loop-at : goal.invariant-loop-at
-invariant-loop-at l = (l.at ≤ length l.bytes) × IsUtf8 (take l.at l.bytes)
+abbrev pub invariant-loop-rest : goal.invariant-loop-rest
+invariant-loop-rest l = record { joined : IsUtf8 l.rest → IsUtf8 l.bytes; parted : IsUtf8 l.bytes → IsUtf8 l.rest }
 
-abbrev pub decreases-loop-at : goal.decreases-loop-at
-decreases-loop-at l = length l.bytes - l.at
+abbrev pub decreases-loop-rest : goal.decreases-loop-rest
+decreases-loop-rest l = length l.rest

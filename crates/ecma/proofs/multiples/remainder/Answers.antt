@@ -1,7 +1,7 @@
 use Rattle.std.proofs.Common.{◌∙◌, sym}
 use Rattle.ecma.proofs.ExactRemainder.{by_infinity, by_nan, by_zero, nan_pattern, of_unbounded}
-use Rattle.ecma.proofs.multiples.remainder_of.Goals as goal
-use Rattle.ecma.proofs.multiples.remainder_of.Goals.{then-not-is_finite-via-then-not-is_finite, then-not-is_finite-via-else-not-is_finite+then-is_nan, then-not-is_finite-via-else-not-is_finite+else-is_nan+then-is_zero}
+use Rattle.ecma.proofs.multiples.remainder.Goals as goal
+use Rattle.ecma.proofs.multiples.remainder.Goals.{then-not-is_finite-via-then-not-is_finite, then-not-is_finite-via-else-not-is_finite+then-is_nan, then-not-is_finite-via-else-not-is_finite+else-is_nan+then-is_zero}
 
 pub returns-then-not-is_finite : goal.returns-then-not-is_finite
 returns-then-not-is_finite c =
