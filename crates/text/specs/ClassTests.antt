@@ -1,5 +1,5 @@
 -- What a class says of its bytes.
-use Rattle.std.specs.Prelude.{ℕ, Bool, true, false}
+use Rattle.std.specs.Prelude.{ℕ, Bool, true, false, Some, None, Option}
 use Rattle.text.specs.declared.class.ByteClass.{ByteClass}
 use Rattle.text.specs.declared.class.ByteClass.TheVariants.{Digit, NameStart, Ascii, Continuation, Lead2, Lead3, Lead4, Never}
 
@@ -36,13 +36,13 @@ name_part_class Lead3 = false
 name_part_class Lead4 = false
 name_part_class Never = false
 
--- how many bytes the UTF-8 sequence has that the byte begins, and 0 where it begins none
-abbrev pub sequence_length : ByteClass → ℕ
-sequence_length Digit = 1
-sequence_length NameStart = 1
-sequence_length Ascii = 1
-sequence_length Continuation = 0
-sequence_length Lead2 = 2
-sequence_length Lead3 = 3
-sequence_length Lead4 = 4
-sequence_length Never = 0
+-- how many bytes the UTF-8 sequence has that the byte begins, if it begins one
+abbrev pub sequence_length : ByteClass → Option ℕ
+sequence_length Digit = Some 1
+sequence_length NameStart = Some 1
+sequence_length Ascii = Some 1
+sequence_length Continuation = None
+sequence_length Lead2 = Some 2
+sequence_length Lead3 = Some 3
+sequence_length Lead4 = Some 4
+sequence_length Never = None

@@ -70,16 +70,16 @@ impl ByteClass {
         matches!(self, ByteClass::Digit | ByteClass::NameStart)
     }
 
-    // How many bytes the sequence has that such a byte begins, and 0 where it begins none.
-    pub fn sequence_length(self) -> usize
+    // How many bytes the sequence has that such a byte begins, if it begins one.
+    pub fn sequence_length(self) -> Option<usize>
         ensures { result ≡ sequence_length self }
     {
         match self {
-            ByteClass::Digit | ByteClass::NameStart | ByteClass::Ascii => 1,
-            ByteClass::Lead2 => 2,
-            ByteClass::Lead3 => 3,
-            ByteClass::Lead4 => 4,
-            ByteClass::Continuation | ByteClass::Never => 0,
+            ByteClass::Digit | ByteClass::NameStart | ByteClass::Ascii => Some(1),
+            ByteClass::Lead2 => Some(2),
+            ByteClass::Lead3 => Some(3),
+            ByteClass::Lead4 => Some(4),
+            ByteClass::Continuation | ByteClass::Never => None,
         }
     }
 }
