@@ -12,7 +12,6 @@ use Rattle.std.proofs.lemmas.Bool.{cond-true, le-leb, lt-leb}
 use Rattle.std.proofs.lemmas.Bool.Decides.{eqb_tells, leb_tells}
 use Rattle.std.specs.Float.{float_is_finite}
 use lib.Dec.{eqb-suc-zero}
-use Rattle.ecma.proofs.Clash.{clash}
 use Rattle.ecma.proofs.LeftOver.{scaled_mod}
 use Rattle.ecma.proofs.Remainder.{rem_is}
 use Rattle.ecma.proofs.WholePart.{by_fields, field}
@@ -35,7 +34,7 @@ fields_value s (suc x) t h =
     go : (b : Bool) → ((b ≡ true) × (suc x ≡ 2047)) ⊎ ((b ≡ false) × (suc x ≡ 2047 → ⊥))
         → HasValue (cond b (cond (eqb t 0) (inf s) nan) (odd 53 s (2 ^ 52 + t) x 1074)) s ((2 ^ 52 + t) * 2 ^ x) (2 ^ 1074)
     go b (inl k) = absurd (h k.1)
-    go true (inr k) = clash (cc)
+    go true (inr k) = cc
     go false (inr k) = odd_sign 53 s (2 ^ 52 + t) x 1074
 
 -- the largest field is that of the infinities and of NaN
@@ -44,8 +43,8 @@ unfolding of_fields float_is_finite
 last_field s x t h e = go (eqb t 0) (subst (λ (y : ℕ). float_is_finite (of_fields binary64 s y t) ≡ true) e h)
   where
     go : (b : Bool) → float_is_finite (cond b (inf s) nan) ≡ true → ⊥
-    go true k = let z : ◌≡◌ {A = Bool} false true = k in clash (cc)
-    go false k = let z : ◌≡◌ {A = Bool} false true = k in clash (cc)
+    go true k = cc
+    go false k = cc
 
 pub stored_value :
     (v : Float) (b q k : ℕ) → of_bits binary64 b ≡ v → float_is_finite v ≡ true → q ≡ digits (field b) (b % 2 ^ 52) → k ≡ field b - 1
@@ -92,7 +91,7 @@ unfolding is_zero
 some_digits v s (suc q) k c h hc z = zero-lt-suc q
 some_digits nan s zero k c h hc z = absurd h
 some_digits (inf t) s zero k c h hc z = absurd h
-some_digits (fin t zero e) s zero k c h hc z = clash (cc)
+some_digits (fin t zero e) s zero k c h hc z = cc
 some_digits (fin t (suc m) e) s zero k c h hc z =
     let none : suc m * up e * c ≡ 0 = h.1 ∙ ap (λ (x : ℕ). x * down e) (zero-mul (2 ^ k)) ∙ zero-mul (down e) in
     absurd (lt_irrefl 0 (subst (λ (x : ℕ). 0 < x) none (mul-pos (mul-pos (zero-lt-suc m) (up_pos e)) hc)))
@@ -154,8 +153,8 @@ power_value s k h = go (ltb k 52) (leb_tells (suc k) 52)
     go true (inl p) =
         let small : 2 ^ k ≤ 2 ^ 51 = pow_mono {j = 51} (omega arith) in
         by_fields_of (2 ^ k) 0 (2 ^ k) (omega arith) (omega arith) (omega arith) (λ (e : 0 ≡ 2047). omega arith) (mul-one (2 ^ k))
-    go true (inr p) = clash (cc)
-    go false (inl p) = clash (cc)
+    go true (inr p) = cc
+    go false (inl p) = cc
     go false (inr p) =
         let less : k - 51 - 1 ≡ k - 52 = omega arith in
         let sum : 52 + (k - 52) ≡ k = omega arith in
@@ -193,28 +192,30 @@ pub of_unbounded : (n d : Float) → float_is_finite n ≡ false → nan ≡ num
 unfolding float_is_finite number_remainder
 of_unbounded nan d h = refl
 of_unbounded (inf s) d h = refl
-of_unbounded (fin s m e) d h = clash (cc)
+of_unbounded (fin s m e) d h = cc
 
 pub by_nan : (n d : Float) → is_nan d ≡ true → nan ≡ number_remainder n d
 unfolding is_nan number_remainder
 by_nan nan d h = refl
 by_nan (inf s) d h = refl
 by_nan (fin s m e) nan h = refl
-by_nan (fin s m e) (inf t) h = clash (cc)
-by_nan (fin s m e) (fin t n d) h = clash (cc)
+by_nan (fin s m e) (inf t) h = cc
+by_nan (fin s m e) (fin t n d) h = cc
 
 pub by_zero : (n d : Float) → is_zero d ≡ true → nan ≡ number_remainder n d
 unfolding is_zero number_remainder
 by_zero nan d h = refl
 by_zero (inf s) d h = refl
-by_zero (fin s m e) nan h = clash (cc)
-by_zero (fin s m e) (inf t) h = clash (cc)
+by_zero (fin s m e) nan h = cc
+by_zero (fin s m e) (inf t) h = cc
 by_zero (fin s m e) (fin t n d) h = sym (cond-true (eqb n 0) nan _ h)
 
 pub by_infinity : (n d : Float) → float_is_finite n ≡ true → is_nan d ≡ false → float_is_finite d ≡ false → n ≡ number_remainder n d
 unfolding float_is_finite is_nan number_remainder
-by_infinity nan d h k g = clash (cc)
-by_infinity (inf s) d h k g = clash (cc)
-by_infinity (fin s m e) nan h k g = clash (cc)
+by_infinity nan d h k g = cc
+by_infinity (inf s) d h k g = cc
+by_infinity (fin s m e) nan h k g = cc
 by_infinity (fin s m e) (inf t) h k g = refl
-by_infinity (fin s m e) (fin t n d) h k g = clash (cc)
+by_infinity (fin s m e) (fin t n d) h k g = cc
+
+pub ruleset at_once = (nan_pattern, of_unbounded, by_nan, by_zero, by_infinity)

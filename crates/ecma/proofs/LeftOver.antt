@@ -33,3 +33,5 @@ smaller_shift a b p q h ha hb =
     let up : 2 ^ (53 + p) ≤ 2 ^ (52 + q) = pow_mono (omega arith) in
     let reach : 2 ^ (52 + q) ≤ b * 2 ^ q = subst (λ (x : ℕ). x ≤ b * 2 ^ q) (sym (pow-add 2 52 q)) (mul-le-mul_right (2 ^ q) hb) in
     sym (mod-eq_of_lt (lt_of_lt_of_le below (omega arith)))
+
+pub ruleset by_shifts = (larger_shift, smaller_shift)

@@ -1,4 +1,4 @@
--- Order and equality of Numbers: `<=` is the opposite of `>` but at NaN, equality goes both ways, only a zero equals +0.
+-- Order and equality of Numbers: `<=` is the opposite of `>` but at NaN, and only a zero equals +0.
 use Rattle.std.proofs.Common.{◌≡◌, ℕ, zero, suc, ◌*◌, ◌<◌, Bool, true, false, not, ◌&&◌, ◌||◌, eqb, ℤ, sym, refl, ap, ◌∙◌, zero-lt-suc, mul-pos, zero-mul, arith, lit<}
 use lib.Ieee.{Float, nan, inf, fin, up, down, below, level, lt, le, eq, is_nan, binary64, of_bits}
 use lib.Ieee.Fits.{up_pos}
@@ -29,27 +29,6 @@ le_is (fin s m e) nan = refl
 le_is (fin s m e) (inf true) = refl
 le_is (fin s m e) (inf false) = refl
 le_is (fin s m e) (fin t n d) = not_above s (m * up e * down d) t (n * up d * down e)
-
-level_sym : (s : Bool) (a : ℕ) (t : Bool) (b : ℕ) → level s a t b ≡ level t b s a
-level_sym false a false b = grind (arith, nat_tests)
-level_sym false a true b = grind (arith, nat_tests)
-level_sym true a false b = grind (arith, nat_tests)
-level_sym true a true b = grind (arith, nat_tests)
-
-pub eq_sym : (x y : Float) → eq x y ≡ eq y x
-unfolding eq
-eq_sym nan nan = refl
-eq_sym nan (inf t) = refl
-eq_sym nan (fin t n d) = refl
-eq_sym (inf s) nan = refl
-eq_sym (inf true) (inf true) = refl
-eq_sym (inf true) (inf false) = refl
-eq_sym (inf false) (inf true) = refl
-eq_sym (inf false) (inf false) = refl
-eq_sym (inf s) (fin t n d) = refl
-eq_sym (fin s m e) nan = refl
-eq_sym (fin s m e) (inf t) = refl
-eq_sym (fin s m e) (fin t n d) = level_sym s (m * up e * down d) t (n * up d * down e)
 
 none_of : (n d : ℕ) → 0 * n * d ≡ 0
 none_of n d = ap (λ (x : ℕ). x * d) (zero-mul n) ∙ zero-mul d

@@ -19,9 +19,9 @@ integer_of_lem n h = grind (arith, nat_tests, ints)
 
 -- ---- the machine's operations on i32 are the standard's on bit strings
 
-pub int32_is : (x : Float) (n : ℕ) (z : ℤ) → z ≡ to_z w32 n → n ≡ to_uint32 x → n < 2 ^ 32 → mag z < 2 ^ 31 → to_z w32 (of_z w32 z) ≡ to_int32 x
+pub int32_is : (x : Float) (z : ℤ) → z ≡ to_z w32 (to_uint32 x) → to_uint32 x < 2 ^ 32 → mag z < 2 ^ 31 → to_z w32 (of_z w32 z) ≡ to_int32 x
 unfolding to_int32 to_uint32
-int32_is x n z e nx l h = to_z-of_z w32 z (record { sfits = h }) ∙ e ∙ sym (integer_of_lem n l) ∙ ap integer_of nx
+int32_is x z e l h = to_z-of_z w32 z (record { sfits = h }) ∙ e ∙ sym (integer_of_lem (to_uint32 x) l)
 
 of_z_lt : (z : ℤ) → mag z < 2 ^ 31 → of_z w32 z < 2 ^ 32
 of_z_lt (pos n) h = omega arith

@@ -1,5 +1,6 @@
 -- The whole part of a stored Number, by the fields of its bits: the sign s, the exponent's field x and the digits t below the leading one.
 use Rattle.std.proofs.Common.{◌≡◌, ℕ, zero, suc, ◌+◌, ◌-◌, ◌*◌, ◌/◌, ◌%◌, ◌^◌, ◌<◌, ◌≤◌, Bool, true, false, cond, ◌||◌, eqb, ltb, leb, ◌⊎◌, ℤ, pos, neg_ℤ, nat_abs, sym, refl, ap, ◌∙◌, subst, inl, inr, not-suc-le-zero, lt_of_le_of_lt, le_of_lt, arith, lit<, pow_pos}
+use lib.Bits.{and_mask, bit_and}
 use lib.Ieee.{Float, nan, inf, fin, up, down, odd, binary64, of_bits, of_fields}
 use lib.Ieee.Digits.{Equals, odd_val}
 use lib.Ieee.Exact.{HasValue, odd_sign}
@@ -8,7 +9,6 @@ use lib.Ieee.Nearest.{div_same}
 use lib.Pow.{mod-mod-pow}
 use Rattle.std.proofs.lemmas.Nat.{field_of}
 use Rattle.std.proofs.lemmas.Bool.Decides.{eqb_tells, leb_tells, nat_tests}
-use Rattle.ecma.proofs.Clash.{clash}
 use Rattle.ecma.proofs.Shifted.{down_shift, up_shift, shifted_out, no_low_digits}
 use Rattle.ecma.specs.Integer.{to_uint32, modulo, truncate}
 
@@ -63,7 +63,7 @@ normal s x t h = go (eqb (suc x) 2047) (eqb_tells (suc x) 2047)
     go : (b : Bool) → ((b ≡ true) × (suc x ≡ 2047)) ⊎ ((b ≡ false) × (suc x ≡ 2047 → ⊥))
         → whole_part (cond b (cond (eqb t 0) (inf s) nan) (odd 53 s (2 ^ 52 + t) x 1074)) ≡ (2 ^ 52 + t) * 2 ^ x / 2 ^ 1074
     go b (inl k) = absurd (h k.1)
-    go true (inr k) = clash (cc)
+    go true (inr k) = cc
     go false (inr k) = of_fraction (odd 53 s (2 ^ 52 + t) x 1074) ((2 ^ 52 + t) * 2 ^ x) 1074 (odd_val 53 s (2 ^ 52 + t) x 1074)
 
 digits_below : (t : ℕ) → t < 2 ^ 52 → 2 ^ 52 + t < 2 ^ 53
@@ -134,11 +134,11 @@ vanishing b x e h =
         → whole_part (of_fields binary64 (leb (2 ^ 63) b) x (b % 2 ^ 52)) % 2 ^ 32 ≡ 0
     go (inl p) q = ap (λ (n : ℕ). n % 2 ^ 32) (below_one (leb (2 ^ 63) b) x (b % 2 ^ 52) p.1 (digits_lt b))
     go (inr p) (inl q) = from_2^84 (leb (2 ^ 63) b) x (b % 2 ^ 52) q.1 (omega (arith, e, field_below b))
-    go (inr p) (inr q) = let z : ◌≡◌ {A = Bool} true false = sym h ∙ cc in clash (cc)
+    go (inr p) (inr q) = cc
 
 pub shifted : (b x d w : ℕ) → x ≡ field b → d ≡ 2 ^ 52 + b % 2 ^ 52 → outside x ≡ false
-    → w ≡ cond (leb x 1075) (d / 2 ^ (1075 - x)) (d * 2 ^ (x - 1075) % 2 ^ 64) → w % 2 ^ 32 ≡ whole_part (of_bits binary64 b) % 2 ^ 32
-shifted b x d w e g h k = ap (λ (n : ℕ). n % 2 ^ 32) k ∙ go (leb x 1075) (leb_tells x 1075) ∙ ap (λ (v : Float). whole_part v % 2 ^ 32) (sym whole)
+    → w ≡ cond (leb x 1075) (d / 2 ^ (1075 - x)) (d * 2 ^ (x - 1075) % 2 ^ 64) → bit_and w 0xffff_ffff ≡ whole_part (of_bits binary64 b) % 2 ^ 32
+shifted b x d w e g h k = and_mask w 32 ∙ ap (λ (n : ℕ). n % 2 ^ 32) k ∙ go (leb x 1075) (leb_tells x 1075) ∙ ap (λ (v : Float). whole_part v % 2 ^ 32) (sym whole)
   where
     s : Bool
     s = leb (2 ^ 63) b
@@ -158,8 +158,8 @@ shifted b x d w e g h k = ap (λ (n : ℕ). n % 2 ^ 32) k ∙ go (leb x 1075) (l
     go : (c : Bool) → ((c ≡ true) × (x ≤ 1075)) ⊎ ((c ≡ false) × (1075 < x))
         → cond c (d / 2 ^ (1075 - x)) (d * 2 ^ (x - 1075) % 2 ^ 64) % 2 ^ 32 ≡ whole_part (of_fields binary64 s x t) % 2 ^ 32
     go true (inl p) = ap (λ (n : ℕ). n / 2 ^ (1075 - x) % 2 ^ 32) g ∙ ap (λ (n : ℕ). n % 2 ^ 32) (sym (from_one s x t from p.1))
-    go true (inr p) = clash (cc)
-    go false (inl p) = clash (cc)
+    go true (inr p) = cc
+    go false (inl p) = cc
     go false (inr p) =
         mod-mod-pow (d * 2 ^ (x - 1075)) 32 32 ∙ ap (λ (n : ℕ). n * 2 ^ (x - 1075) % 2 ^ 32) g
         ∙ ap (λ (n : ℕ). n % 2 ^ 32) (sym (from_2^53 s x t (le_of_lt p.1) (lt_of_le_of_lt to (lit< tt))))
@@ -180,3 +180,5 @@ unfolding to_uint32
 uint32_is b low e =
     ap (λ (n : ℕ). cond (leb (2 ^ 63) b) ((2 ^ 32 - n) % 2 ^ 32) n) e ∙ signed_low (leb (2 ^ 63) b) (whole_part (of_bits binary64 b))
     ∙ sym (ap (λ (z : ℤ). modulo z (2 ^ 32)) (bits_signed b))
+
+pub ruleset low_word = (shifted, vanishing)

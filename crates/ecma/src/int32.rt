@@ -29,6 +29,7 @@ fn aligned(digits: u64, exponent: u64) -> u64
 }
 
 // The low 32 bits of the whole part, the sign left out.
+#[tactic(auto, using(crate::proofs::WholePart::low_word))]
 fn magnitude(value: FloatValue) -> u32
     ensures { result ≡ unsigned_abs (truncate (number_of value)) % 2 ^ 32 }
 {
@@ -47,6 +48,7 @@ fn with_sign(low: u32, negative: bool) -> u32
     if negative { low.wrapping_neg() } else { low }
 }
 
+#[tactic(auto, using(crate::proofs::WholePart::uint32_is))]
 pub fn to_uint32(x: f64) -> u32
     ensures { result ≡ to_uint32 x }
 {
@@ -54,6 +56,7 @@ pub fn to_uint32(x: f64) -> u32
     with_sign(magnitude(value), value.is_negative())
 }
 
+#[tactic(auto, using(crate::proofs::TwosComplement::int32_is))]
 pub fn to_int32(x: f64) -> i32
     ensures { result ≡ to_int32 x }
 {
