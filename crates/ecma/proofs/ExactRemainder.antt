@@ -9,7 +9,7 @@ use lib.Ieee.Scale.{round_same}
 use native.Mathlib.Nat.{mul-mul-mul_comm, mul-pos, mul_right_comm}
 use Rattle.std.proofs.Common.{◌≡◌, ℕ, zero, suc, ◌+◌, ◌-◌, ◌*◌, ◌/◌, ◌%◌, ◌^◌, ◌<◌, ◌≤◌, Bool, true, false, cond, eqb, ltb, leb, ◌⊎◌, inl, inr, T, pos, sym, refl, ap, ◌∙◌, subst, mul_assoc, mul_comm, zero-add, zero-mul, one-mul, mul-one, zero-lt-suc, lt_irrefl, pow_pos, pow-add, pow_mono, arith}
 use Rattle.std.proofs.lemmas.Bool.{cond-true, le-leb, lt-leb}
-use Rattle.std.proofs.lemmas.Bool.Decides.{eqb_tells, leb_tells}
+use Rattle.std.proofs.lemmas.Bool.Decides.{eqb_tells, leb_tells, nat_tests}
 use Rattle.std.specs.Float.{float_is_finite}
 use lib.Dec.{eqb-suc-zero}
 use Rattle.ecma.proofs.LeftOver.{scaled_mod}
@@ -132,10 +132,6 @@ low_is false m h =
     above : (0 + m) % 2 ^ 63 ≡ m
     above = omega arith
 
-above_zero : (x : ℕ) → 0 < x → eqb x 0 ≡ false
-above_zero zero g = absurd (lt_irrefl 0 g)
-above_zero (suc x) g = eqb-suc-zero x
-
 pub power_value : (s : Bool) (k : ℕ) → k ≤ 2046 → HasValue (of_bits binary64 (cond s (2 ^ 63) 0 + cond (ltb k 52) (2 ^ k) ((k - 51) * 2 ^ 52))) s (2 ^ k) (2 ^ 1074)
 power_value s k h = go (ltb k 52) (leb_tells (suc k) 52)
   where
@@ -158,8 +154,9 @@ power_value s k h = go (ltb k 52) (leb_tells (suc k) 52)
     go false (inr p) =
         let less : k - 51 - 1 ≡ k - 52 = omega arith in
         let sum : 52 + (k - 52) ≡ k = omega arith in
+        let above : eqb (k - 51) 0 ≡ false = grind (arith, nat_tests) in
         by_fields_of ((k - 51) * 2 ^ 52) (k - 51) 0 (omega arith) (omega arith) (omega arith) (λ (e : k - 51 ≡ 2047). omega arith)
-        (ap (λ (b : Bool). cond b 0 (2 ^ 52 + 0) * 2 ^ (k - 51 - 1)) (above_zero (k - 51) (omega arith)) ∙ ap (λ (y : ℕ). 2 ^ 52 * 2 ^ y) less
+        (ap (λ (b : Bool). cond b 0 (2 ^ 52 + 0) * 2 ^ (k - 51 - 1)) above ∙ ap (λ (y : ℕ). 2 ^ 52 * 2 ^ y) less
         ∙ sym (pow-add 2 52 (k - 52)) ∙ ap (λ (y : ℕ). 2 ^ y) sum)
 
 -- ---- the two together

@@ -1,17 +1,13 @@
 -- What is left of one number by another, each of them digits with a shift.
-use Rattle.std.proofs.Common.{◌≡◌, ℕ, ◌+◌, ◌-◌, ◌*◌, ◌/◌, ◌%◌, ◌^◌, ◌<◌, ◌≤◌, sym, ap, ◌∙◌, subst, mul_assoc, mul_comm, arith, pow_pos, pow-add, pow_mono, lt_of_lt_of_le, shl_lt}
-use native.Mathlib.Nat.{add-mul, add-mul-mod_self_right, mod-add-div, mod-eq_of_lt, mod-lt, mul-lt-mul_of_pos_right, mul-le-mul_right}
+use Rattle.std.proofs.Common.{◌≡◌, ℕ, ◌+◌, ◌-◌, ◌*◌, ◌%◌, ◌^◌, ◌<◌, ◌≤◌, sym, ap, ◌∙◌, subst, mul_assoc, arith, pow_pos, pow-add, pow_mono, lt_of_lt_of_le, shl_lt}
+use lib.Arith.{mod-mul}
+use native.Mathlib.Nat.{add-zero, mul-div_cancel, mul-mod_left, mod-eq_of_lt, mul-le-mul_right}
 use Rattle.std.proofs.lemmas.Nat.{mul-mod_first}
 use Rattle.ecma.proofs.Shifted.{regroup}
 
 -- a factor of both goes through
 pub scaled_mod : (a b c : ℕ) → 0 < b → 0 < c → a * c % (b * c) ≡ a % b * c
-scaled_mod a b c hb hc =
-    let parts : a % b * c + a / b * (b * c) ≡ a * c =
-    ap (λ (x : ℕ). a % b * c + x) (sym (mul_assoc (a / b) b c) ∙ ap (λ (x : ℕ). x * c) (mul_comm (a / b) b))
-    ∙ sym (add-mul (a % b) (b * (a / b)) c) ∙ ap (λ (x : ℕ). x * c) (mod-add-div a b) in
-    ap (λ (x : ℕ). x % (b * c)) (sym parts) ∙ add-mul-mod_self_right (a % b * c) (a / b) (b * c)
-    ∙ mod-eq_of_lt (mul-lt-mul_of_pos_right (mod-lt a hb) hc)
+scaled_mod a b c hb hc = rw (mod-mul (a * c) hb hc, mul-div_cancel a hc, mul-mod_left a c) (add-zero (a % b * c))
 
 -- one more doubling
 pub once_more : (rest left i d : ℕ) → rest ≡ left * 2 ^ i % d → rest * 2 % d ≡ left * 2 ^ (i + 1) % d

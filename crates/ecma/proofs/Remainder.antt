@@ -1,5 +1,5 @@
 -- f64's `%` is Number::remainder.
-use Rattle.std.proofs.Common.{◌≡◌, ℕ, zero, suc, ◌-◌, ◌*◌, ◌/◌, ◌%◌, ◌^◌, ◌<◌, ◌≤◌, Bool, true, false, cond, T, eqb, ℤ, pos, negsuc, ◌-ℤ◌, ◌*ℤ◌, neg_ℤ, sym, refl, ap, ◌∙◌, lt_irrefl, zero-lt-suc, mul-pos, one-mul, mul-zero, zero-mul, mul-one, arith, eqb→eq}
+use Rattle.std.proofs.Common.{◌≡◌, ℕ, zero, suc, ◌-◌, ◌*◌, ◌/◌, ◌%◌, ◌^◌, ◌<◌, ◌≤◌, Bool, true, false, cond, T, eqb, ℤ, pos, negsuc, ◌-ℤ◌, ◌*ℤ◌, sym, refl, ap, ◌∙◌, lt_irrefl, zero-lt-suc, mul-pos, one-mul, mul-zero, zero-mul, mul-one, arith, eqb→eq}
 use lib.Dec.{eqb-suc-zero}
 use lib.Ieee.{Float, nan, inf, fin, up, down, unlike, binary64, round, rem, fits}
 use lib.Ieee.Fits.{down_pos, up_pos}
@@ -15,21 +15,21 @@ use Rattle.ecma.specs.Number.{number_remainder, part, signed}
 
 product : (t u : Bool) (b q : ℕ) → signed t b *ℤ signed u q ≡ signed (unlike t u) (b * q)
 product false false b q = refl
-product false true b zero = ap pos (mul-zero b) ∙ sym (ap (λ (n : ℕ). neg_ℤ (pos n)) (mul-zero b))
+product false true b zero = simp mul-zero
 product false true b (suc q) = refl
-product true false zero q = ap pos (zero-mul q) ∙ sym (ap (λ (n : ℕ). neg_ℤ (pos n)) (zero-mul q))
+product true false zero q = simp zero-mul
 product true false (suc b) q = refl
-product true true zero q = zero-*ℤ (neg_ℤ (pos q)) ∙ sym (ap pos (zero-mul q))
-product true true (suc b) zero = ap (λ (n : ℕ). neg_ℤ (pos n)) (mul-zero (suc b)) ∙ sym (ap pos (mul-zero (suc b)))
+product true true zero q = simp (zero-*ℤ, zero-mul)
+product true true (suc b) zero = simp mul-zero
 product true true (suc b) (suc q) = refl
 
 quotient : (s t : Bool) (a b : ℕ) → 0 < b → quot_z (signed s a) (signed t b) ≡ signed (unlike s t) (a / b)
 quotient s t a zero h = absurd (lt_irrefl 0 h)
 quotient false false a (suc b) h = refl
 quotient false true a (suc b) h = refl
-quotient true false zero (suc b) h = ap pos (zero-div (suc b)) ∙ sym (ap (λ (n : ℕ). neg_ℤ (pos n)) (zero-div (suc b)))
+quotient true false zero (suc b) h = simp zero-div
 quotient true false (suc a) (suc b) h = refl
-quotient true true zero (suc b) h = ap (λ (n : ℕ). neg_ℤ (pos n)) (zero-div (suc b)) ∙ sym (ap pos (zero-div (suc b)))
+quotient true true zero (suc b) h = simp zero-div
 quotient true true (suc a) (suc b) h = refl
 
 difference : (s : Bool) (a c : ℕ) → c ≤ a → signed s a -ℤ signed s c ≡ signed s (a - c)
@@ -53,9 +53,9 @@ what_is_left s t a b h =
 
 as_part : (s : Bool) (r u : ℕ) → round binary64 s r u ≡ part s (signed s r) u
 as_part false zero u = refl
-as_part false (suc r) u = ap (λ (b : Bool). round binary64 (cond b false false) (suc r) u) (sym (eqb-suc-zero r))
+as_part false (suc r) u = simp eqb-suc-zero
 as_part true zero u = refl
-as_part true (suc r) u = ap (λ (b : Bool). round binary64 (cond b true true) (suc r) u) (sym (eqb-suc-zero r))
+as_part true (suc r) u = simp eqb-suc-zero
 
 zero_rounds : (s : Bool) (u : ℕ) → 0 < u → round binary64 s 0 u ≡ fin s 0 (pos 0)
 unfolding round

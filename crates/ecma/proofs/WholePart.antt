@@ -7,6 +7,7 @@ use lib.Ieee.Exact.{HasValue, odd_sign}
 use lib.Ieee.Fits.{down_pos}
 use lib.Ieee.Nearest.{div_same}
 use lib.Pow.{mod-mod-pow}
+use Rattle.std.proofs.lemmas.Int.{ints}
 use Rattle.std.proofs.lemmas.Nat.{field_of}
 use Rattle.std.proofs.lemmas.Bool.Decides.{eqb_tells, leb_tells, nat_tests}
 use Rattle.ecma.proofs.Shifted.{down_shift, up_shift, shifted_out, no_low_digits}
@@ -15,14 +16,10 @@ use Rattle.ecma.specs.Integer.{to_uint32, modulo, truncate}
 abbrev pub whole_part : Float → ℕ
 whole_part v = nat_abs (truncate v)
 
-nat_abs-neg : (n : ℕ) → nat_abs (neg_ℤ (pos n)) ≡ n
-nat_abs-neg zero = refl
-nat_abs-neg (suc n) = refl
-
 of_finite : (s : Bool) (m : ℕ) (e : ℤ) → whole_part (fin s m e) ≡ m * up e / down e
 unfolding truncate
 of_finite false m e = refl
-of_finite true m e = nat_abs-neg (m * up e / down e)
+of_finite true m e = omega (arith, ints)
 
 of_fraction : (v : Float) (a l : ℕ) → Equals v a (2 ^ l) → whole_part v ≡ a / 2 ^ l
 of_fraction nan a l h = absurd h
@@ -66,13 +63,10 @@ normal s x t h = go (eqb (suc x) 2047) (eqb_tells (suc x) 2047)
     go true (inr k) = cc
     go false (inr k) = of_fraction (odd 53 s (2 ^ 52 + t) x 1074) ((2 ^ 52 + t) * 2 ^ x) 1074 (odd_val 53 s (2 ^ 52 + t) x 1074)
 
-digits_below : (t : ℕ) → t < 2 ^ 52 → 2 ^ 52 + t < 2 ^ 53
-digits_below t h = omega arith
-
 pub below_one : (s : Bool) (x t : ℕ) → x < 1023 → t < 2 ^ 52 → whole_part (of_fields binary64 s x t) ≡ 0
 unfolding of_fields
 below_one s zero t h g = of_fraction (odd 53 s t 0 1074) (t * 2 ^ 0) 1074 (odd_val 53 s t 0 1074) ∙ shifted_out t 52 0 1074 g (omega arith)
-below_one s (suc x) t h g = normal s x t (λ (e : suc x ≡ 2047). omega arith) ∙ shifted_out (2 ^ 52 + t) 53 x 1074 (digits_below t g) (omega arith)
+below_one s (suc x) t h g = normal s x t (λ (e : suc x ≡ 2047). omega arith) ∙ shifted_out (2 ^ 52 + t) 53 x 1074 (omega arith) (omega arith)
 
 pub from_one : (s : Bool) (x t : ℕ) → 1023 ≤ x → x ≤ 1075 → whole_part (of_fields binary64 s x t) ≡ (2 ^ 52 + t) / 2 ^ (1075 - x)
 from_one s zero t h g = absurd (not-suc-le-zero h)
