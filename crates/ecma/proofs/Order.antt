@@ -1,6 +1,6 @@
--- Order and equality of Numbers: `<=` is the opposite of `>` but at NaN, and only a zero equals +0.
-use Rattle.std.proofs.Common.{◌≡◌, ℕ, zero, suc, ◌*◌, ◌<◌, Bool, true, false, not, ◌&&◌, ◌||◌, eqb, ℤ, sym, refl, ap, ◌∙◌, zero-lt-suc, mul-pos, zero-mul, arith, lit<}
-use lib.Ieee.{Float, nan, inf, fin, up, down, below, level, lt, le, eq, is_nan, binary64, of_bits}
+-- Order, equality and difference of Numbers: `<=` is the opposite of `>` but at NaN, and only a zero equals +0.
+use Rattle.std.proofs.Common.{◌≡◌, ℕ, zero, suc, ◌*◌, ◌<◌, Bool, true, false, not, ◌&&◌, ◌||◌, eqb, ℤ, pos, sym, refl, ap, ◌∙◌, zero-lt-suc, mul-pos, zero-mul, arith, lit<}
+use lib.Ieee.{add, ne, neg, sub, Float, nan, inf, fin, up, down, below, level, lt, le, eq, is_nan, binary64, of_bits}
 use lib.Ieee.Fits.{up_pos}
 use mathlib.Core.Bool.{beq}
 use Rattle.std.proofs.lemmas.Bool.Decides.{nat_tests}
@@ -55,3 +55,18 @@ unfolding eq is_zero of_bits
 eq_zero nan = refl
 eq_zero (inf s) = refl
 eq_zero (fin s m e) = only_zero s m e
+
+pub sub_is : (x y : Float) → sub binary64 x y ≡ add binary64 x (neg y)
+unfolding sub
+sub_is x y = refl
+
+-- the literal 1.0, as the code writes it
+pub sub_one : (x : Float) → sub binary64 x (of_bits binary64 0x3ff0_0000_0000_0000) ≡ add binary64 x (neg (fin false 1 (pos 0)))
+unfolding of_bits sub
+sub_one x = refl
+
+pub ne_is : (x y : Float) → ne x y ≡ not (eq x y)
+unfolding ne
+ne_is x y = refl
+
+pub ruleset derived = (sub_is, ne_is)
