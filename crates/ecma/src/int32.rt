@@ -1,7 +1,6 @@
 ghost use Rattle.ecma.specs.Integer.{to_int32, to_uint32, truncate};
 ghost use Rattle.ecma.specs.Value.{number_of};
-ghost use Rattle.std.specs.Prelude.{◌≡◌, ◌-◌, ◌*◌, ◌/◌, ◌%◌, ◌^◌, ◌≤◌, ◌||◌, nat_le, if◌then◌else◌, from_bits, nat_lt, unsigned_abs};
-ghost use Rattle.std.specs.Float.{binary64};
+ghost use Rattle.std.specs.Prelude.{◌≡◌, ◌-◌, ◌*◌, ◌/◌, ◌%◌, ◌^◌, ◌≤◌, ◌||◌, nat_le, if◌then◌else◌, nat_lt, unsigned_abs};
 
 use crate::float_value::FloatValue;
 
