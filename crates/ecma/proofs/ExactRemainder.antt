@@ -8,7 +8,7 @@ use lib.Ieee.Fits.{down_pos, up_pos}
 use lib.Ieee.Scale.{round_same}
 use native.Mathlib.Nat.{mul-mul-mul_comm, mul-pos, mul_right_comm}
 use Rattle.std.proofs.Common.{◌≡◌, ℕ, zero, suc, ◌+◌, ◌-◌, ◌*◌, ◌/◌, ◌%◌, ◌^◌, ◌<◌, ◌≤◌, Bool, true, false, cond, eqb, ltb, leb, ◌⊎◌, inl, inr, T, pos, sym, refl, ap, ◌∙◌, subst, mul_assoc, mul_comm, zero-add, zero-mul, one-mul, mul-one, zero-lt-suc, lt_irrefl, pow_pos, pow-add, pow_mono, arith}
-use Rattle.std.proofs.lemmas.Bool.{cond-true, le-leb, lt-leb}
+use Rattle.std.proofs.lemmas.Bool.{ne_eqb, cond-true, le-leb, lt-leb}
 use Rattle.std.proofs.lemmas.Bool.Decides.{eqb_tells, leb_tells, nat_tests}
 use Rattle.std.specs.Float.{float_is_finite}
 use lib.Dec.{eqb-suc-zero}
@@ -27,15 +27,7 @@ unfolding of_fields
 fields_value s zero t h = odd_sign 53 s t 0 1074
 fields_value s (suc x) t h =
     let less : suc x - 1 ≡ x = omega arith in
-    subst (λ (q : ℕ). HasValue (of_fields binary64 s (suc x) t) s q (2 ^ 1074))
-    (ap (λ (b : Bool). cond b t (2 ^ 52 + t) * 2 ^ x) (sym (eqb-suc-zero x)) ∙ ap (λ (k : ℕ). digits (suc x) t * 2 ^ k) (sym less))
-    (go (eqb (suc x) 2047) (eqb_tells (suc x) 2047))
-  where
-    go : (b : Bool) → ((b ≡ true) × (suc x ≡ 2047)) ⊎ ((b ≡ false) × (suc x ≡ 2047 → ⊥))
-        → HasValue (cond b (cond (eqb t 0) (inf s) nan) (odd 53 s (2 ^ 52 + t) x 1074)) s ((2 ^ 52 + t) * 2 ^ x) (2 ^ 1074)
-    go b (inl k) = absurd (h k.1)
-    go true (inr k) = cc
-    go false (inr k) = odd_sign 53 s (2 ^ 52 + t) x 1074
+    rw (ne_eqb (suc x) 2047 h, eqb-suc-zero x, less) (odd_sign 53 s (2 ^ 52 + t) x 1074)
 
 -- the largest field is that of the infinities and of NaN
 last_field : (s : Bool) (x t : ℕ) → float_is_finite (of_fields binary64 s x t) ≡ true → x ≡ 2047 → ⊥
@@ -133,7 +125,7 @@ low_is false m h =
     above = omega arith
 
 pub power_value : (s : Bool) (k : ℕ) → k ≤ 2046 → HasValue (of_bits binary64 (cond s (2 ^ 63) 0 + cond (ltb k 52) (2 ^ k) ((k - 51) * 2 ^ 52))) s (2 ^ k) (2 ^ 1074)
-power_value s k h = go (ltb k 52) (leb_tells (suc k) 52)
+power_value s k h = go (leb_tells (suc k) 52)
   where
     -- by the fields of the magnitude m
     by_fields_of : (m x t : ℕ) → m < 2 ^ 63 → m / 2 ^ 52 ≡ x → m % 2 ^ 52 ≡ t → (x ≡ 2047 → ⊥) → digits x t * 2 ^ (x - 1) ≡ 2 ^ k
@@ -144,20 +136,19 @@ power_value s k h = go (ltb k 52) (leb_tells (suc k) 52)
         subst (λ (v : Float). HasValue v s (2 ^ k) (2 ^ 1074)) (sym is)
         (subst (λ (q : ℕ). HasValue (of_fields binary64 s x t) s q (2 ^ 1074)) ek (fields_value s x t n))
 
-    go : (b : Bool) → ((b ≡ true) × (suc k ≤ 52)) ⊎ ((b ≡ false) × (52 < suc k))
-        → HasValue (of_bits binary64 (cond s (2 ^ 63) 0 + cond b (2 ^ k) ((k - 51) * 2 ^ 52))) s (2 ^ k) (2 ^ 1074)
-    go true (inl p) =
+    go : ((ltb k 52 ≡ true) × (suc k ≤ 52)) ⊎ ((ltb k 52 ≡ false) × (52 < suc k))
+        → HasValue (of_bits binary64 (cond s (2 ^ 63) 0 + cond (ltb k 52) (2 ^ k) ((k - 51) * 2 ^ 52))) s (2 ^ k) (2 ^ 1074)
+    go (inl p) =
         let small : 2 ^ k ≤ 2 ^ 51 = pow_mono {j = 51} (omega arith) in
-        by_fields_of (2 ^ k) 0 (2 ^ k) (omega arith) (omega arith) (omega arith) (λ (e : 0 ≡ 2047). omega arith) (mul-one (2 ^ k))
-    go true (inr p) = cc
-    go false (inl p) = cc
-    go false (inr p) =
+        rw p.0 (by_fields_of (2 ^ k) 0 (2 ^ k) (omega arith) (omega arith) (omega arith) (λ (e : 0 ≡ 2047). omega arith) (mul-one (2 ^ k)))
+    go (inr p) =
         let less : k - 51 - 1 ≡ k - 52 = omega arith in
         let sum : 52 + (k - 52) ≡ k = omega arith in
         let above : eqb (k - 51) 0 ≡ false = grind (arith, nat_tests) in
-        by_fields_of ((k - 51) * 2 ^ 52) (k - 51) 0 (omega arith) (omega arith) (omega arith) (λ (e : k - 51 ≡ 2047). omega arith)
+        rw p.0
+        (by_fields_of ((k - 51) * 2 ^ 52) (k - 51) 0 (omega arith) (omega arith) (omega arith) (λ (e : k - 51 ≡ 2047). omega arith)
         (ap (λ (b : Bool). cond b 0 (2 ^ 52 + 0) * 2 ^ (k - 51 - 1)) above ∙ ap (λ (y : ℕ). 2 ^ 52 * 2 ^ y) less
-        ∙ sym (pow-add 2 52 (k - 52)) ∙ ap (λ (y : ℕ). 2 ^ y) sum)
+        ∙ sym (pow-add 2 52 (k - 52)) ∙ ap (λ (y : ℕ). 2 ^ y) sum))
 
 -- ---- the two together
 

@@ -9,6 +9,7 @@ use lib.Ieee.Nearest.{div_same}
 use lib.Pow.{mod-mod-pow}
 use Rattle.std.proofs.lemmas.Int.{ints}
 use Rattle.std.proofs.lemmas.Nat.{field_of}
+use Rattle.std.proofs.lemmas.Bool.{ne_eqb}
 use Rattle.std.proofs.lemmas.Bool.Decides.{eqb_tells, leb_tells, nat_tests}
 use Rattle.ecma.proofs.Shifted.{down_shift, up_shift, shifted_out, no_low_digits}
 use Rattle.ecma.specs.Integer.{to_uint32, modulo, truncate}
@@ -55,13 +56,8 @@ fields_signed s (suc x) t = go (eqb (suc x) 2047) (eqb t 0)
 
 normal : (s : Bool) (x t : ℕ) → (suc x ≡ 2047 → ⊥) → whole_part (of_fields binary64 s (suc x) t) ≡ (2 ^ 52 + t) * 2 ^ x / 2 ^ 1074
 unfolding of_fields
-normal s x t h = go (eqb (suc x) 2047) (eqb_tells (suc x) 2047)
-  where
-    go : (b : Bool) → ((b ≡ true) × (suc x ≡ 2047)) ⊎ ((b ≡ false) × (suc x ≡ 2047 → ⊥))
-        → whole_part (cond b (cond (eqb t 0) (inf s) nan) (odd 53 s (2 ^ 52 + t) x 1074)) ≡ (2 ^ 52 + t) * 2 ^ x / 2 ^ 1074
-    go b (inl k) = absurd (h k.1)
-    go true (inr k) = cc
-    go false (inr k) = of_fraction (odd 53 s (2 ^ 52 + t) x 1074) ((2 ^ 52 + t) * 2 ^ x) 1074 (odd_val 53 s (2 ^ 52 + t) x 1074)
+normal s x t h =
+    rw (ne_eqb (suc x) 2047 h) (of_fraction (odd 53 s (2 ^ 52 + t) x 1074) ((2 ^ 52 + t) * 2 ^ x) 1074 (odd_val 53 s (2 ^ 52 + t) x 1074))
 
 below_one : (s : Bool) (x t : ℕ) → x < 1023 → t < 2 ^ 52 → whole_part (of_fields binary64 s x t) ≡ 0
 unfolding of_fields
@@ -89,16 +85,13 @@ not_finite s t = go (eqb t 0)
     go false = refl
 
 from_2^84 : (s : Bool) (x t : ℕ) → 1106 < x → x ≤ 2047 → whole_part (of_fields binary64 s x t) % 2 ^ 32 ≡ 0
-from_2^84 s x t h g = go (eqb x 2047) (eqb_tells x 2047)
+from_2^84 s x t h g = go (eqb_tells x 2047)
   where
-    go : (b : Bool) → ((b ≡ true) × (x ≡ 2047)) ⊎ ((b ≡ false) × (x ≡ 2047 → ⊥)) → whole_part (of_fields binary64 s x t) % 2 ^ 32 ≡ 0
-    go b (inl k) = ap (λ (y : ℕ). whole_part (of_fields binary64 s y t) % 2 ^ 32) k.1 ∙ ap (λ (y : ℕ). y % 2 ^ 32) (not_finite s t)
-    go b (inr k) =
-        let lt : x < 2047 = lt_of_ne k.1 in
-        ap (λ (y : ℕ). y % 2 ^ 32) (from_2^53 s x t (omega arith) lt) ∙ no_low_digits (2 ^ 52 + t) (x - 1075) 32 (omega arith)
-      where
-        lt_of_ne : (x ≡ 2047 → ⊥) → x < 2047
-        lt_of_ne n = omega arith
+    go : ((eqb x 2047 ≡ true) × (x ≡ 2047)) ⊎ ((eqb x 2047 ≡ false) × (x ≡ 2047 → ⊥)) → whole_part (of_fields binary64 s x t) % 2 ^ 32 ≡ 0
+    go (inl k) = rw (k.1, not_finite s t)
+    go (inr k) =
+        let lt : x < 2047 = grind (arith, k.1) in
+        rw (from_2^53 s x t (omega arith) lt) (no_low_digits (2 ^ 52 + t) (x - 1075) 32 (omega arith))
 
 -- ---- by the bits themselves: x is the exponent's field, d the digits with the leading one
 
@@ -132,7 +125,7 @@ vanishing b x e h =
 
 pub shifted : (b x d w : ℕ) → x ≡ field b → d ≡ 2 ^ 52 + b % 2 ^ 52 → outside x ≡ false
     → w ≡ cond (leb x 1075) (d / 2 ^ (1075 - x)) (d * 2 ^ (x - 1075) % 2 ^ 64) → bit_and w 0xffff_ffff ≡ whole_part (of_bits binary64 b) % 2 ^ 32
-shifted b x d w e g h k = and_mask w 32 ∙ ap (λ (n : ℕ). n % 2 ^ 32) k ∙ go (leb x 1075) (leb_tells x 1075) ∙ ap (λ (v : Float). whole_part v % 2 ^ 32) (sym whole)
+shifted b x d w e g h k = and_mask w 32 ∙ ap (λ (n : ℕ). n % 2 ^ 32) k ∙ go (leb_tells x 1075) ∙ ap (λ (v : Float). whole_part v % 2 ^ 32) (sym whole)
   where
     s : Bool
     s = leb (2 ^ 63) b
@@ -149,14 +142,12 @@ shifted b x d w e g h k = and_mask w 32 ∙ ap (λ (n : ℕ). n % 2 ^ 32) k ∙ 
     to : x ≤ 1106
     to = grind (arith, nat_tests)
 
-    go : (c : Bool) → ((c ≡ true) × (x ≤ 1075)) ⊎ ((c ≡ false) × (1075 < x))
-        → cond c (d / 2 ^ (1075 - x)) (d * 2 ^ (x - 1075) % 2 ^ 64) % 2 ^ 32 ≡ whole_part (of_fields binary64 s x t) % 2 ^ 32
-    go true (inl p) = ap (λ (n : ℕ). n / 2 ^ (1075 - x) % 2 ^ 32) g ∙ ap (λ (n : ℕ). n % 2 ^ 32) (sym (from_one s x t from p.1))
-    go true (inr p) = cc
-    go false (inl p) = cc
-    go false (inr p) =
-        mod-mod-pow (d * 2 ^ (x - 1075)) 32 32 ∙ ap (λ (n : ℕ). n * 2 ^ (x - 1075) % 2 ^ 32) g
-        ∙ ap (λ (n : ℕ). n % 2 ^ 32) (sym (from_2^53 s x t (le_of_lt p.1) (lt_of_le_of_lt to (lit< tt))))
+    go : ((leb x 1075 ≡ true) × (x ≤ 1075)) ⊎ ((leb x 1075 ≡ false) × (1075 < x))
+        → cond (leb x 1075) (d / 2 ^ (1075 - x)) (d * 2 ^ (x - 1075) % 2 ^ 64) % 2 ^ 32 ≡ whole_part (of_fields binary64 s x t) % 2 ^ 32
+    go (inl p) = rw (p.0, g, from_one s x t from p.1)
+    go (inr p) =
+        rw (p.0, from_2^53 s x t (le_of_lt p.1) (lt_of_le_of_lt to (lit< tt)))
+        (mod-mod-pow (d * 2 ^ (x - 1075)) 32 32 ∙ ap (λ (n : ℕ). n * 2 ^ (x - 1075) % 2 ^ 32) g)
 
 -- ---- to_uint32 from the low word of the whole part, and its complement where the sign's bit is set
 
