@@ -44,9 +44,7 @@ pub stored_value :
 stored_value v b q k e f hq hk =
     let s = leb (2 ^ 63) b in
     let is : of_fields binary64 s (field b) (b % 2 ^ 52) ≡ v = sym (by_fields b) ∙ e in
-    let value = fields_value s (field b) (b % 2 ^ 52) (last_field s (field b) (b % 2 ^ 52) (ap float_is_finite is ∙ f)) in
-    subst (λ (w : Float). HasValue w s (q * 2 ^ k) (2 ^ 1074)) is
-    (subst (λ (a : ℕ). HasValue (of_fields binary64 s (field b) (b % 2 ^ 52)) s a (2 ^ 1074)) (ap (λ (y : ℕ). y * 2 ^ (field b - 1)) (sym hq) ∙ ap (λ (y : ℕ). q * 2 ^ y) (sym hk)) value)
+    rw (hq, hk, ← is) (fields_value s (field b) (b % 2 ^ 52) (last_field s (field b) (b % 2 ^ 52) (ap float_is_finite is ∙ f)))
 
 -- ---- the remainder of two values over one denominator
 
@@ -73,10 +71,8 @@ rem_value (fin z m e) (fin y (suc n) d) s t a b c h k hb hc =
     let eb : B * c ≡ b * u = crossed (suc n) (up d) (down e) b (down d) c k.1 ∙ swapped b (down d) (down e) in
     let pb : 0 < B = mul-pos (mul-pos (zero-lt-suc n) (up_pos d)) (down_pos e) in
     let pu : 0 < u = mul-pos (down_pos e) (down_pos d) in
-    let cross : A % B * c ≡ a % b * u =
-    sym (scaled_mod A B c pb hc) ∙ ap (λ (x : ℕ). x % (B * c)) ea ∙ ap (λ (x : ℕ). a * u % x) eb ∙ scaled_mod a b u hb pu in
-    ap (λ (q : Bool). cond q nan (round binary64 z (A % B) u)) (eqb-suc-zero n)
-    ∙ round_same binary64 z (A % B) u (a % b) c pu hc cross ∙ ap (λ (q : Bool). round binary64 q (a % b) c) h.0
+    let cross : A % B * c ≡ a % b * u = rw (← scaled_mod A B c pb hc, ea, eb) (scaled_mod a b u hb pu) in
+    rw (eqb-suc-zero n, h.0) (round_same binary64 s (A % B) u (a % b) c pu hc cross)
 
 pub some_digits : (v : Float) (s : Bool) (q k c : ℕ) → HasValue v s (q * 2 ^ k) c → 0 < c → is_zero v ≡ false → 0 < q
 unfolding is_zero
@@ -100,29 +96,19 @@ product_value (fin z m e) (inf y) s t a b c d h k hc hd = absurd k
 product_value (fin z m e) (fin y n g) s t a b c d h k hc hd =
     let u = down e * down g in
     let cross : m * up e * (n * up g) * (c * d) ≡ a * b * u =
-    mul-mul-mul_comm (m * up e) (n * up g) c d ∙ ap (λ (x : ℕ). x * (n * up g * d)) h.1 ∙ ap (λ (x : ℕ). a * down e * x) k.1
-    ∙ mul-mul-mul_comm a (down e) b (down g) in
-    round_same binary64 (unlike z y) (m * up e * (n * up g)) u (a * b) (c * d) (mul-pos (down_pos e) (down_pos g)) (mul-pos hc hd) cross
-    ∙ ap (λ (q : Bool). round binary64 (unlike q y) (a * b) (c * d)) h.0 ∙ ap (λ (q : Bool). round binary64 (unlike s q) (a * b) (c * d)) k.0
+    rw (mul-mul-mul_comm (m * up e) (n * up g) c d, h.1, k.1) (mul-mul-mul_comm a (down e) b (down g)) in
+    rw (h.0, k.0) (round_same binary64 (unlike s t) (m * up e * (n * up g)) u (a * b) (c * d) (mul-pos (down_pos e) (down_pos g)) (mul-pos hc hd) cross)
 
 -- ---- the bits of a power: a sign, and below it the magnitude m
 
 low_is : (s : Bool) (m : ℕ) → m < 2 ^ 63 → of_bits binary64 (cond s (2 ^ 63) 0 + m) ≡ of_fields binary64 s (m / 2 ^ 52) (m % 2 ^ 52)
 low_is true m h =
-    by_fields (2 ^ 63 + m) ∙ ap (λ (b : Bool). of_fields binary64 b (field (2 ^ 63 + m)) ((2 ^ 63 + m) % 2 ^ 52)) (le-leb (2 ^ 63) (2 ^ 63 + m) (omega arith))
-    ∙ ap (λ (x : ℕ). of_fields binary64 true (x / 2 ^ 52) ((2 ^ 63 + m) % 2 ^ 52)) above ∙ ap (λ (t : ℕ). of_fields binary64 true (m / 2 ^ 52) t) below
-  where
-    above : (2 ^ 63 + m) % 2 ^ 63 ≡ m
-    above = omega arith
-
-    below : (2 ^ 63 + m) % 2 ^ 52 ≡ m % 2 ^ 52
-    below = omega arith
+    let above : (2 ^ 63 + m) % 2 ^ 63 ≡ m = omega arith in
+    let below : (2 ^ 63 + m) % 2 ^ 52 ≡ m % 2 ^ 52 = omega arith in
+    by_fields (2 ^ 63 + m) ∙ rw (le-leb (2 ^ 63) (2 ^ 63 + m) (omega arith), above, below)
 low_is false m h =
-    by_fields (0 + m) ∙ ap (λ (b : Bool). of_fields binary64 b (field (0 + m)) ((0 + m) % 2 ^ 52)) (lt-leb (2 ^ 63) (0 + m) (omega arith))
-    ∙ ap (λ (x : ℕ). of_fields binary64 false (x / 2 ^ 52) ((0 + m) % 2 ^ 52)) above ∙ ap (λ (t : ℕ). of_fields binary64 false (m / 2 ^ 52) (t % 2 ^ 52)) (zero-add m)
-  where
-    above : (0 + m) % 2 ^ 63 ≡ m
-    above = omega arith
+    let above : (0 + m) % 2 ^ 63 ≡ m = omega arith in
+    by_fields (0 + m) ∙ rw (lt-leb (2 ^ 63) (0 + m) (omega arith), above, zero-add m)
 
 pub power_value : (s : Bool) (k : ℕ) → k ≤ 2046 → HasValue (of_bits binary64 (cond s (2 ^ 63) 0 + cond (ltb k 52) (2 ^ k) ((k - 51) * 2 ^ 52))) s (2 ^ k) (2 ^ 1074)
 power_value s k h = go (leb_tells (suc k) 52)
@@ -133,8 +119,7 @@ power_value s k h = go (leb_tells (suc k) 52)
     by_fields_of m x t g ex et n ek =
         let is : of_bits binary64 (cond s (2 ^ 63) 0 + m) ≡ of_fields binary64 s x t =
         low_is s m g ∙ ap (λ (y : ℕ). of_fields binary64 s y (m % 2 ^ 52)) ex ∙ ap (λ (y : ℕ). of_fields binary64 s x y) et in
-        subst (λ (v : Float). HasValue v s (2 ^ k) (2 ^ 1074)) (sym is)
-        (subst (λ (q : ℕ). HasValue (of_fields binary64 s x t) s q (2 ^ 1074)) ek (fields_value s x t n))
+        rw (is, ← ek) (fields_value s x t n)
 
     go : ((ltb k 52 ≡ true) × (suc k ≤ 52)) ⊎ ((ltb k 52 ≡ false) × (52 < suc k))
         → HasValue (of_bits binary64 (cond s (2 ^ 63) 0 + cond (ltb k 52) (2 ^ k) ((k - 51) * 2 ^ 52))) s (2 ^ k) (2 ^ 1074)
