@@ -1,15 +1,15 @@
 -- What the code works out in multiples of 2 ^ -1074 is Number::remainder: the magnitude of a stored Number, the remainder of two, and a product that puts the
 -- result back into a Number.
-use lib.Ieee.{Float, nan, inf, fin, up, down, unlike, odd, binary64, fits, is_nan, of_bits, of_fields, of_int, round, rem, mul}
+use lib.Ieee.{Float, nan, inf, fin, up, down, unlike, binary64, fits, is_nan, of_bits, of_fields, of_int, round, rem, mul}
 use lib.Ieee.Back.{round_whole}
 use lib.Ieee.Bits.{of_bits-fits}
 use lib.Ieee.Exact.{HasValue, odd_sign}
 use lib.Ieee.Fits.{down_pos, up_pos}
 use lib.Ieee.Scale.{round_same}
 use native.Mathlib.Nat.{mul-mul-mul_comm, mul-pos, mul_right_comm}
-use Rattle.std.proofs.Common.{◌≡◌, ℕ, zero, suc, ◌+◌, ◌-◌, ◌*◌, ◌/◌, ◌%◌, ◌^◌, ◌<◌, ◌≤◌, Bool, true, false, cond, eqb, ltb, leb, ◌⊎◌, inl, inr, T, pos, sym, refl, ap, ◌∙◌, subst, mul_assoc, mul_comm, zero-add, zero-mul, one-mul, mul-one, zero-lt-suc, lt_irrefl, pow_pos, pow-add, pow_mono, arith}
+use Rattle.std.proofs.Common.{◌≡◌, ℕ, zero, suc, ◌+◌, ◌-◌, ◌*◌, ◌/◌, ◌%◌, ◌^◌, ◌<◌, ◌≤◌, Bool, true, false, cond, eqb, ltb, leb, ◌⊎◌, inl, inr, T, pos, sym, refl, ap, ◌∙◌, subst, mul_assoc, mul_comm, zero-add, zero-mul, one-mul, mul-one, zero-lt-suc, pow_pos, pow-add, pow_mono, arith}
 use Rattle.std.proofs.lemmas.Bool.{ne_eqb, cond-true, le-leb, lt-leb}
-use Rattle.std.proofs.lemmas.Bool.Decides.{eqb_tells, leb_tells, nat_tests}
+use Rattle.std.proofs.lemmas.Bool.Decides.{leb_tells, nat_tests}
 use Rattle.std.specs.Float.{float_is_finite}
 use lib.Dec.{eqb-suc-zero}
 use Rattle.ecma.proofs.LeftOver.{scaled_mod}
@@ -51,9 +51,6 @@ stored_value v b q k e f hq hk =
 crossed : (x p q a u c : ℕ) → x * p * c ≡ a * u → x * p * q * c ≡ a * (u * q)
 crossed x p q a u c h = mul_right_comm (x * p) q c ∙ ap (λ (y : ℕ). y * q) h ∙ mul_assoc a u q
 
-swapped : (a d e : ℕ) → a * (d * e) ≡ a * (e * d)
-swapped a d e = ap (λ (y : ℕ). a * y) (mul_comm d e)
-
 rem_value : (v w : Float) (s t : Bool) (a b c : ℕ) → HasValue v s a c → HasValue w t b c → 0 < b → 0 < c → rem binary64 v w ≡ round binary64 s (a % b) c
 unfolding rem
 rem_value nan w s t a b c h k hb hc = absurd h
@@ -61,14 +58,15 @@ rem_value (inf z) w s t a b c h k hb hc = absurd h
 rem_value (fin z m e) nan s t a b c h k hb hc = absurd k
 rem_value (fin z m e) (inf y) s t a b c h k hb hc = absurd k
 rem_value (fin z m e) (fin y zero d) s t a b c h k hb hc =
-    let none : 0 ≡ b * down d = sym (ap (λ (x : ℕ). x * c) (zero-mul (up d)) ∙ zero-mul c) ∙ k.1 in
-    absurd (lt_irrefl 0 (subst (λ (x : ℕ). 0 < x) (sym none) (mul-pos hb (down_pos d))))
+    let none : 0 ≡ b * down d = rw (← k.1) (simp zero-mul) in
+    let some : 0 < b * down d = mul-pos hb (down_pos d) in
+    absurd (omega arith)
 rem_value (fin z m e) (fin y (suc n) d) s t a b c h k hb hc =
     let A = m * up e * down d in
     let B = suc n * up d * down e in
     let u = down e * down d in
     let ea : A * c ≡ a * u = crossed m (up e) (down d) a (down e) c h.1 in
-    let eb : B * c ≡ b * u = crossed (suc n) (up d) (down e) b (down d) c k.1 ∙ swapped b (down d) (down e) in
+    let eb : B * c ≡ b * u = rw (mul_comm (down e) (down d)) (crossed (suc n) (up d) (down e) b (down d) c k.1) in
     let pb : 0 < B = mul-pos (mul-pos (zero-lt-suc n) (up_pos d)) (down_pos e) in
     let pu : 0 < u = mul-pos (down_pos e) (down_pos d) in
     let cross : A % B * c ≡ a % b * u = rw (← scaled_mod A B c pb hc, ea, eb) (scaled_mod a b u hb pu) in
@@ -81,8 +79,9 @@ some_digits nan s zero k c h hc z = absurd h
 some_digits (inf t) s zero k c h hc z = absurd h
 some_digits (fin t zero e) s zero k c h hc z = cc
 some_digits (fin t (suc m) e) s zero k c h hc z =
-    let none : suc m * up e * c ≡ 0 = h.1 ∙ ap (λ (x : ℕ). x * down e) (zero-mul (2 ^ k)) ∙ zero-mul (down e) in
-    absurd (lt_irrefl 0 (subst (λ (x : ℕ). 0 < x) none (mul-pos (mul-pos (zero-lt-suc m) (up_pos e)) hc)))
+    let none : suc m * up e * c ≡ 0 = rw h.1 (simp zero-mul) in
+    let some : 0 < suc m * up e * c = mul-pos (mul-pos (zero-lt-suc m) (up_pos e)) hc in
+    omega arith
 
 -- ---- back to a Number: digits times a power
 
@@ -147,9 +146,8 @@ remainder_is n d bits t a b l k w e hn hd hb hl hw left =
     let s = leb (2 ^ 63) bits in
     let whole : l ≤ 2 ^ 53 = omega arith in
     product_value (round binary64 false l 1) w false s l (2 ^ k) 1 (2 ^ 1074) (round_whole binary64 false l whole) hw (zero-lt-suc 0) (pow_pos 1074)
-    ∙ ap (λ (q : ℕ). round binary64 (unlike false s) (l * 2 ^ k) q) (one-mul (2 ^ 1074)) ∙ ap (λ (q : Bool). round binary64 q (l * 2 ^ k) (2 ^ 1074)) (own s)
-    ∙ ap (λ (q : ℕ). round binary64 s q (2 ^ 1074)) left ∙ sym (rem_value n d s t a b (2 ^ 1074) hn hd hb (pow_pos 1074))
-    ∙ rem_is n d (subst (λ (x : Float). T (fits binary64 x)) e (of_bits-fits binary64 bits))
+    ∙ rw (one-mul (2 ^ 1074), own s, left, ← rem_value n d s t a b (2 ^ 1074) hn hd hb (pow_pos 1074))
+    (rem_is n d (subst (λ (x : Float). T (fits binary64 x)) e (of_bits-fits binary64 bits)))
   where
     own : (q : Bool) → unlike false q ≡ q
     own true = refl

@@ -13,14 +13,12 @@ scaled_mod a b c hb hc = rw (mod-mul (a * c) hb hc, mul-div_cancel a hc, mul-mod
 pub once_more : (rest left i d : ℕ) → rest ≡ left * 2 ^ i % d → rest * 2 % d ≡ left * 2 ^ (i + 1) % d
 once_more rest left i d h =
     let twice : left * 2 ^ i * 2 ≡ left * 2 ^ (i + 1) = mul_assoc left (2 ^ i) 2 ∙ ap (λ (x : ℕ). left * x) (sym (pow-add 2 i 1)) in
-    ap (λ (x : ℕ). x * 2 % d) h ∙ mul-mod_first (left * 2 ^ i) 2 d ∙ ap (λ (x : ℕ). x % d) twice
+    rw (h, mul-mod_first (left * 2 ^ i) 2 d, twice)
 
 -- where the dividend has the larger shift
 pub larger_shift : (a b p q left : ℕ) → q ≤ p → 0 < b → left ≡ a % b * 2 ^ (p - q) % b → left * 2 ^ q ≡ a * 2 ^ p % (b * 2 ^ q)
 larger_shift a b p q left h hb e =
-    ap (λ (x : ℕ). x * 2 ^ q) (e ∙ mul-mod_first a (2 ^ (p - q)) b)
-    ∙ sym (scaled_mod (a * 2 ^ (p - q)) b (2 ^ q) hb (pow_pos q))
-    ∙ ap (λ (x : ℕ). x % (b * 2 ^ q)) (sym (regroup a p q h))
+    rw (e, mul-mod_first a (2 ^ (p - q)) b, regroup a p q h, scaled_mod (a * 2 ^ (p - q)) b (2 ^ q) hb (pow_pos q))
 
 -- where the divisor has it, and so a leading digit
 pub smaller_shift : (a b p q : ℕ) → p < q → a < 2 ^ 53 → 2 ^ 52 ≤ b → a * 2 ^ p ≡ a * 2 ^ p % (b * 2 ^ q)

@@ -44,10 +44,7 @@ own_sign true true n = refl
 
 what_is_left : (s t : Bool) (a b : ℕ) → 0 < b → signed s a -ℤ signed t b *ℤ quot_z (signed s a) (signed t b) ≡ signed s (a % b)
 what_is_left s t a b h =
-    ap (λ (q : ℤ). signed s a -ℤ signed t b *ℤ q) (quotient s t a b h)
-    ∙ ap (λ (p : ℤ). signed s a -ℤ p) (product t (unlike s t) b (a / b) ∙ own_sign s t (b * (a / b)))
-    ∙ difference s a (b * (a / b)) (mul-div-le a b)
-    ∙ ap (signed s) (sym (mod_def a b))
+    rw (quotient s t a b h, product t (unlike s t) b (a / b), own_sign s t (b * (a / b)), difference s a (b * (a / b)) (mul-div-le a b), mod_def a b)
 
 -- ---- back to Numbers
 
@@ -72,11 +69,7 @@ zero_exponent s (pos (suc k)) f = absurd (not_one k (sym (mul-one (2 ^ suc k)) �
 zero_exponent s (negsuc k) f = absurd (not_one k (sym (one-mul (2 ^ suc k)) ∙ eqb→eq (1 * 2 ^ suc k) 1 f))
 
 zero_left : (s : Bool) (e c : ℤ) (b : ℕ) → T (fits binary64 (fin s 0 e)) → round binary64 s (0 * up e * down c % b) (down e * down c) ≡ fin s 0 e
-zero_left s e c b f =
-    ap (λ (n : ℕ). round binary64 s (n % b) (down e * down c)) (ap (λ (n : ℕ). n * down c) (zero-mul (up e)) ∙ zero-mul (down c))
-    ∙ ap (λ (n : ℕ). round binary64 s n (down e * down c)) (zero-mod b)
-    ∙ zero_rounds s (down e * down c) (mul-pos (down_pos e) (down_pos c))
-    ∙ ap (fin s 0) (sym (zero_exponent s e f))
+zero_left s e c b f = simp (zero-mul, zero-mod) (zero_rounds s (down e * down c) (mul-pos (down_pos e) (down_pos c)) ∙ ap (fin s 0) (sym (zero_exponent s e f)))
 
 -- two finite Numbers, the divisor not zero
 finite : (s : Bool) (m : ℕ) (e : ℤ) (t : Bool) (k : ℕ) (c : ℤ) → T (fits binary64 (fin s m e))
@@ -89,8 +82,7 @@ finite s (suc m) e t k c f =
     let b = suc k * up c * down e in
     let u = down e * down c in
     let p : 0 < b = mul-pos (mul-pos (zero-lt-suc k) (up_pos c)) (down_pos e) in
-    as_part s (a % b) u ∙ ap (λ (r : ℤ). part s r u) (sym (what_is_left s t a b p))
-    ∙ ap (λ (z : Bool). cond z (fin s (suc m) e) (part s (signed s a -ℤ signed t b *ℤ quot_z (signed s a) (signed t b)) u)) (sym (eqb-suc-zero m))
+    rw (eqb-suc-zero m, what_is_left s t a b p) (as_part s (a % b) u)
 
 pub rem_is : (n d : Float) → T (fits binary64 n) → rem binary64 n d ≡ number_remainder n d
 unfolding rem number_remainder

@@ -114,8 +114,7 @@ outside x = ltb x 1023 || ltb 1106 x
 
 pub vanishing : (b x : ℕ) → x ≡ field b → outside x ≡ true → whole_part (of_bits binary64 b) % 2 ^ 32 ≡ 0
 vanishing b x e h =
-    ap (λ (v : Float). whole_part v % 2 ^ 32) (by_fields b) ∙ ap (λ (y : ℕ). whole_part (of_fields binary64 (leb (2 ^ 63) b) y (b % 2 ^ 52)) % 2 ^ 32) (sym e)
-    ∙ go (leb_tells (suc x) 1023) (leb_tells 1107 x)
+    rw (by_fields b, ← e) (go (leb_tells (suc x) 1023) (leb_tells 1107 x))
   where
     go : ((ltb x 1023 ≡ true) × (suc x ≤ 1023)) ⊎ ((ltb x 1023 ≡ false) × (1023 < suc x)) → ((ltb 1106 x ≡ true) × (1107 ≤ x)) ⊎ ((ltb 1106 x ≡ false) × (x < 1107))
         → whole_part (of_fields binary64 (leb (2 ^ 63) b) x (b % 2 ^ 52)) % 2 ^ 32 ≡ 0
