@@ -36,7 +36,7 @@ fn magnitude(value: FloatValue) -> u32
     if vanishes(exponent) {
         return 0;
     }
-    let whole = aligned(value.leading_and_fraction(), exponent);
+    let whole = aligned(value.normal_significand(), exponent);
     (whole & LOW_WORD) as u32
 }
 

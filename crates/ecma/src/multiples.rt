@@ -31,7 +31,7 @@ impl Magnitude {
             }
         } else {
             Magnitude {
-                digits: value.leading_and_fraction(),
+                digits: value.normal_significand(),
                 shift: exponent - 1,
             }
         }
