@@ -1,4 +1,3 @@
-pub mod Clash
 pub mod ExactRemainder
 pub mod LeftOver
 pub mod LooseEquality

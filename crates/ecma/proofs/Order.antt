@@ -1,8 +1,7 @@
--- Order and equality of Numbers: `<=` is the opposite of `>` but at NaN, equality goes both ways, only a zero equals +0.
-use Rattle.std.proofs.Common.{◌≡◌, ℕ, zero, suc, ◌*◌, ◌<◌, Bool, true, false, not, ◌&&◌, ◌||◌, eqb, ℤ, sym, refl, ap, ◌∙◌, zero-lt-suc, mul-pos, zero-mul, arith, lit<}
-use lib.Ieee.{Float, nan, inf, fin, up, down, below, level, lt, le, eq, is_nan, binary64, of_bits}
+-- Order, equality and difference of Numbers: `<=` is the opposite of `>` but at NaN, and only a zero equals +0.
+use Rattle.std.proofs.Common.{◌≡◌, ℕ, zero, suc, ◌*◌, ◌<◌, Bool, true, false, not, ◌||◌, eqb, ℤ, pos, refl, zero-lt-suc, mul-pos, zero-mul, arith, lit<}
+use lib.Ieee.{add, ne, neg, sub, Float, nan, inf, fin, up, down, below, level, lt, le, eq, is_nan, binary64, of_bits}
 use lib.Ieee.Fits.{up_pos}
-use mathlib.Core.Bool.{beq}
 use Rattle.std.proofs.lemmas.Bool.Decides.{nat_tests}
 use Rattle.ecma.specs.Number.{is_zero, number_less_than}
 use Rattle.ecma.specs.Operators.{is_false}
@@ -30,45 +29,12 @@ le_is (fin s m e) (inf true) = refl
 le_is (fin s m e) (inf false) = refl
 le_is (fin s m e) (fin t n d) = not_above s (m * up e * down d) t (n * up d * down e)
 
-level_sym : (s : Bool) (a : ℕ) (t : Bool) (b : ℕ) → level s a t b ≡ level t b s a
-level_sym false a false b = grind (arith, nat_tests)
-level_sym false a true b = grind (arith, nat_tests)
-level_sym true a false b = grind (arith, nat_tests)
-level_sym true a true b = grind (arith, nat_tests)
-
-pub eq_sym : (x y : Float) → eq x y ≡ eq y x
-unfolding eq
-eq_sym nan nan = refl
-eq_sym nan (inf t) = refl
-eq_sym nan (fin t n d) = refl
-eq_sym (inf s) nan = refl
-eq_sym (inf true) (inf true) = refl
-eq_sym (inf true) (inf false) = refl
-eq_sym (inf false) (inf true) = refl
-eq_sym (inf false) (inf false) = refl
-eq_sym (inf s) (fin t n d) = refl
-eq_sym (fin s m e) nan = refl
-eq_sym (fin s m e) (inf t) = refl
-eq_sym (fin s m e) (fin t n d) = level_sym s (m * up e * down d) t (n * up d * down e)
-
-none_of : (n d : ℕ) → 0 * n * d ≡ 0
-none_of n d = ap (λ (x : ℕ). x * d) (zero-mul n) ∙ zero-mul d
-
 only_zero : (s : Bool) (m : ℕ) (e : ℤ) → level s (m * up e * 1) false (0 * 1 * down e) ≡ eqb m 0
-only_zero s m e = ap (λ (b : ℕ). level s (m * up e * 1) false b) (none_of 1 (down e)) ∙ go m
-  where
-    small : (b : Bool) → (true && (b || true)) ≡ true
-    small true = refl
-    small false = refl
-
-    above : (n : ℕ) → 0 < n → eqb n 0 ≡ false
-    above n h = grind (arith, nat_tests)
-
-    go : (k : ℕ) → level s (k * up e * 1) false 0 ≡ eqb k 0
-    go zero = ap (λ (n : ℕ). level s n false 0) (none_of (up e) 1) ∙ small (beq s false)
-    go (suc k) =
-        let p : 0 < suc k * up e * 1 = mul-pos (mul-pos (zero-lt-suc k) (up_pos e)) (lit< tt) in
-        ap (λ (b : Bool). b && (beq s false || b)) (above (suc k * up e * 1) p) ∙ sym (above (suc k) (zero-lt-suc k))
+only_zero true zero e = simp zero-mul
+only_zero false zero e = simp zero-mul
+only_zero s (suc k) e =
+    let p : 0 < suc k * up e * 1 = mul-pos (mul-pos (zero-lt-suc k) (up_pos e)) (lit< tt) in
+    simp zero-mul (grind (arith, nat_tests))
 
 -- +0, as the code writes it
 pub eq_zero : (x : Float) → eq x (of_bits binary64 0) ≡ is_zero x
@@ -76,3 +42,18 @@ unfolding eq is_zero of_bits
 eq_zero nan = refl
 eq_zero (inf s) = refl
 eq_zero (fin s m e) = only_zero s m e
+
+pub sub_is : (x y : Float) → sub binary64 x y ≡ add binary64 x (neg y)
+unfolding sub
+sub_is x y = refl
+
+-- the literal 1.0, as the code writes it
+pub sub_one : (x : Float) → sub binary64 x (of_bits binary64 0x3ff0_0000_0000_0000) ≡ add binary64 x (neg (fin false 1 (pos 0)))
+unfolding of_bits sub
+sub_one x = refl
+
+pub ne_is : (x y : Float) → ne x y ≡ not (eq x y)
+unfolding ne
+ne_is x y = refl
+
+pub ruleset derived = (sub_is, ne_is)

@@ -1,5 +1,5 @@
 -- f64's `%` is Number::remainder.
-use Rattle.std.proofs.Common.{◌≡◌, ℕ, zero, suc, ◌-◌, ◌*◌, ◌/◌, ◌%◌, ◌^◌, ◌<◌, ◌≤◌, Bool, true, false, cond, T, eqb, ℤ, pos, negsuc, ◌-ℤ◌, ◌*ℤ◌, neg_ℤ, sym, refl, ap, ◌∙◌, lt_irrefl, zero-lt-suc, mul-pos, one-mul, mul-zero, zero-mul, mul-one, arith, eqb→eq}
+use Rattle.std.proofs.Common.{◌≡◌, ℕ, zero, suc, ◌-◌, ◌*◌, ◌/◌, ◌%◌, ◌^◌, ◌<◌, ◌≤◌, Bool, true, false, cond, T, eqb, ℤ, pos, negsuc, ◌-ℤ◌, ◌*ℤ◌, sym, refl, ap, ◌∙◌, lt_irrefl, zero-lt-suc, mul-pos, one-mul, mul-zero, zero-mul, mul-one, arith, eqb→eq}
 use lib.Dec.{eqb-suc-zero}
 use lib.Ieee.{Float, nan, inf, fin, up, down, unlike, binary64, round, rem, fits}
 use lib.Ieee.Fits.{down_pos, up_pos}
@@ -15,21 +15,21 @@ use Rattle.ecma.specs.Number.{number_remainder, part, signed}
 
 product : (t u : Bool) (b q : ℕ) → signed t b *ℤ signed u q ≡ signed (unlike t u) (b * q)
 product false false b q = refl
-product false true b zero = ap pos (mul-zero b) ∙ sym (ap (λ (n : ℕ). neg_ℤ (pos n)) (mul-zero b))
+product false true b zero = simp mul-zero
 product false true b (suc q) = refl
-product true false zero q = ap pos (zero-mul q) ∙ sym (ap (λ (n : ℕ). neg_ℤ (pos n)) (zero-mul q))
+product true false zero q = simp zero-mul
 product true false (suc b) q = refl
-product true true zero q = zero-*ℤ (neg_ℤ (pos q)) ∙ sym (ap pos (zero-mul q))
-product true true (suc b) zero = ap (λ (n : ℕ). neg_ℤ (pos n)) (mul-zero (suc b)) ∙ sym (ap pos (mul-zero (suc b)))
+product true true zero q = simp (zero-*ℤ, zero-mul)
+product true true (suc b) zero = simp mul-zero
 product true true (suc b) (suc q) = refl
 
 quotient : (s t : Bool) (a b : ℕ) → 0 < b → quot_z (signed s a) (signed t b) ≡ signed (unlike s t) (a / b)
 quotient s t a zero h = absurd (lt_irrefl 0 h)
 quotient false false a (suc b) h = refl
 quotient false true a (suc b) h = refl
-quotient true false zero (suc b) h = ap pos (zero-div (suc b)) ∙ sym (ap (λ (n : ℕ). neg_ℤ (pos n)) (zero-div (suc b)))
+quotient true false zero (suc b) h = simp zero-div
 quotient true false (suc a) (suc b) h = refl
-quotient true true zero (suc b) h = ap (λ (n : ℕ). neg_ℤ (pos n)) (zero-div (suc b)) ∙ sym (ap pos (zero-div (suc b)))
+quotient true true zero (suc b) h = simp zero-div
 quotient true true (suc a) (suc b) h = refl
 
 difference : (s : Bool) (a c : ℕ) → c ≤ a → signed s a -ℤ signed s c ≡ signed s (a - c)
@@ -44,18 +44,15 @@ own_sign true true n = refl
 
 what_is_left : (s t : Bool) (a b : ℕ) → 0 < b → signed s a -ℤ signed t b *ℤ quot_z (signed s a) (signed t b) ≡ signed s (a % b)
 what_is_left s t a b h =
-    ap (λ (q : ℤ). signed s a -ℤ signed t b *ℤ q) (quotient s t a b h)
-    ∙ ap (λ (p : ℤ). signed s a -ℤ p) (product t (unlike s t) b (a / b) ∙ own_sign s t (b * (a / b)))
-    ∙ difference s a (b * (a / b)) (mul-div-le a b)
-    ∙ ap (signed s) (sym (mod_def a b))
+    rw (quotient s t a b h, product t (unlike s t) b (a / b), own_sign s t (b * (a / b)), difference s a (b * (a / b)) (mul-div-le a b), mod_def a b)
 
 -- ---- back to Numbers
 
 as_part : (s : Bool) (r u : ℕ) → round binary64 s r u ≡ part s (signed s r) u
 as_part false zero u = refl
-as_part false (suc r) u = ap (λ (b : Bool). round binary64 (cond b false false) (suc r) u) (sym (eqb-suc-zero r))
+as_part false (suc r) u = simp eqb-suc-zero
 as_part true zero u = refl
-as_part true (suc r) u = ap (λ (b : Bool). round binary64 (cond b true true) (suc r) u) (sym (eqb-suc-zero r))
+as_part true (suc r) u = simp eqb-suc-zero
 
 zero_rounds : (s : Bool) (u : ℕ) → 0 < u → round binary64 s 0 u ≡ fin s 0 (pos 0)
 unfolding round
@@ -72,11 +69,7 @@ zero_exponent s (pos (suc k)) f = absurd (not_one k (sym (mul-one (2 ^ suc k)) �
 zero_exponent s (negsuc k) f = absurd (not_one k (sym (one-mul (2 ^ suc k)) ∙ eqb→eq (1 * 2 ^ suc k) 1 f))
 
 zero_left : (s : Bool) (e c : ℤ) (b : ℕ) → T (fits binary64 (fin s 0 e)) → round binary64 s (0 * up e * down c % b) (down e * down c) ≡ fin s 0 e
-zero_left s e c b f =
-    ap (λ (n : ℕ). round binary64 s (n % b) (down e * down c)) (ap (λ (n : ℕ). n * down c) (zero-mul (up e)) ∙ zero-mul (down c))
-    ∙ ap (λ (n : ℕ). round binary64 s n (down e * down c)) (zero-mod b)
-    ∙ zero_rounds s (down e * down c) (mul-pos (down_pos e) (down_pos c))
-    ∙ ap (fin s 0) (sym (zero_exponent s e f))
+zero_left s e c b f = simp (zero-mul, zero-mod) (zero_rounds s (down e * down c) (mul-pos (down_pos e) (down_pos c)) ∙ ap (fin s 0) (sym (zero_exponent s e f)))
 
 -- two finite Numbers, the divisor not zero
 finite : (s : Bool) (m : ℕ) (e : ℤ) (t : Bool) (k : ℕ) (c : ℤ) → T (fits binary64 (fin s m e))
@@ -89,8 +82,7 @@ finite s (suc m) e t k c f =
     let b = suc k * up c * down e in
     let u = down e * down c in
     let p : 0 < b = mul-pos (mul-pos (zero-lt-suc k) (up_pos c)) (down_pos e) in
-    as_part s (a % b) u ∙ ap (λ (r : ℤ). part s r u) (sym (what_is_left s t a b p))
-    ∙ ap (λ (z : Bool). cond z (fin s (suc m) e) (part s (signed s a -ℤ signed t b *ℤ quot_z (signed s a) (signed t b)) u)) (sym (eqb-suc-zero m))
+    rw (eqb-suc-zero m, what_is_left s t a b p) (as_part s (a % b) u)
 
 pub rem_is : (n d : Float) → T (fits binary64 n) → rem binary64 n d ≡ number_remainder n d
 unfolding rem number_remainder

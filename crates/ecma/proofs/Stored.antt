@@ -5,23 +5,24 @@ use lib.Ieee.Bits.{of_bits-fits, of_bits-to_bits, to_bits-of_bits}
 use lib.Ieee.Fits.{down_pos}
 use lib.Ieee.Nearest.{div_same}
 use Rattle.std.proofs.lemmas.Bool.Decides.{Decides-eqb, Decides-like, same_from_decides}
-use Rattle.ecma.proofs.Clash.{clash}
 use Rattle.ecma.specs.declared.float_value.FloatValue.{FloatValue}
 use Rattle.ecma.specs.Number.{number_same_value}
 use Rattle.ecma.specs.Value.{number_of}
 
-pub read_back : (x : Float) (b : ℕ) → T (fits binary64 x) → b ≡ to_bits binary64 x → of_bits binary64 b ≡ x
-read_back x b f e = ap (of_bits binary64) e ∙ of_bits-to_bits binary64 x f
+pub read_back : (x : Float) → fits binary64 x ≡ true → of_bits binary64 (to_bits binary64 x) ≡ x
+read_back x f = of_bits-to_bits binary64 x (subst T (sym f) tt)
 
 -- only NaN is written as a NaN, and that is one pattern
 nan_only : (x : Float) → is_nan x ≡ true → to_bits binary64 x ≡ 0x7ff8_0000_0000_0000
 unfolding to_bits is_nan
 nan_only nan h = refl
-nan_only (inf s) h = clash (cc)
-nan_only (fin s m e) h = clash (cc)
+nan_only (inf s) h = cc
+nan_only (fin s m e) h = cc
 
-pub one_nan : (x : Float) (b : ℕ) → T (fits binary64 x) → b ≡ to_bits binary64 x → is_nan (of_bits binary64 b) ≡ true → b ≡ 0x7ff8_0000_0000_0000
-one_nan x b f e h = e ∙ nan_only x (sym (ap is_nan (read_back x b f e)) ∙ h)
+pub one_nan : (x : Float) (b : ℕ) → fits binary64 x ≡ true → b ≡ to_bits binary64 x → is_nan (of_bits binary64 b) ≡ true → b ≡ 0x7ff8_0000_0000_0000
+one_nan x b f e h = e ∙ nan_only x (sym (ap (λ (n : ℕ). is_nan (of_bits binary64 n)) e ∙ ap is_nan (read_back x f)) ∙ h)
+
+pub ruleset as_stored = (one_nan, read_back)
 
 -- ---- Numbers are the same where their bits are
 
@@ -45,19 +46,19 @@ same_magnitude s m n e d h =
 same_bits : (x y : Float) → number_same_value x y ≡ true → to_bits binary64 x ≡ to_bits binary64 y
 unfolding number_same_value is_nan
 same_bits nan nan h = refl
-same_bits nan (inf t) h = clash (cc)
-same_bits nan (fin t n d) h = clash (cc)
-same_bits (inf s) nan h = clash (cc)
+same_bits nan (inf t) h = cc
+same_bits nan (fin t n d) h = cc
+same_bits (inf s) nan h = cc
 same_bits (inf true) (inf true) h = refl
-same_bits (inf true) (inf false) h = clash (cc)
-same_bits (inf false) (inf true) h = clash (cc)
+same_bits (inf true) (inf false) h = cc
+same_bits (inf false) (inf true) h = cc
 same_bits (inf false) (inf false) h = refl
-same_bits (inf s) (fin t n d) h = clash (cc)
-same_bits (fin s m e) nan h = clash (cc)
-same_bits (fin s m e) (inf t) h = clash (cc)
+same_bits (inf s) (fin t n d) h = cc
+same_bits (fin s m e) nan h = cc
+same_bits (fin s m e) (inf t) h = cc
 same_bits (fin true m e) (fin true n d) h = same_magnitude true m n e d (eqb→eq (m * up e * down d) (n * up d * down e) (subst T (sym h) tt))
-same_bits (fin true m e) (fin false n d) h = clash (cc)
-same_bits (fin false m e) (fin true n d) h = clash (cc)
+same_bits (fin true m e) (fin false n d) h = cc
+same_bits (fin false m e) (fin true n d) h = cc
 same_bits (fin false m e) (fin false n d) h = same_magnitude false m n e d (eqb→eq (m * up e * down d) (n * up d * down e) (subst T (sym h) tt))
 
 module _ (x y : Float) (fx : T (fits binary64 x)) (fy : T (fits binary64 y)) where

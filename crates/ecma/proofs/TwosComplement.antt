@@ -19,9 +19,9 @@ integer_of_lem n h = grind (arith, nat_tests, ints)
 
 -- ---- the machine's operations on i32 are the standard's on bit strings
 
-pub int32_is : (x : Float) (n : ℕ) (z : ℤ) → z ≡ to_z w32 n → n ≡ to_uint32 x → n < 2 ^ 32 → mag z < 2 ^ 31 → to_z w32 (of_z w32 z) ≡ to_int32 x
+pub int32_is : (x : Float) (z : ℤ) → z ≡ to_z w32 (to_uint32 x) → to_uint32 x < 2 ^ 32 → mag z < 2 ^ 31 → to_z w32 (of_z w32 z) ≡ to_int32 x
 unfolding to_int32 to_uint32
-int32_is x n z e nx l h = to_z-of_z w32 z (record { sfits = h }) ∙ e ∙ sym (integer_of_lem n l) ∙ ap integer_of nx
+int32_is x z e l h = to_z-of_z w32 z (record { sfits = h }) ∙ e ∙ sym (integer_of_lem (to_uint32 x) l)
 
 of_z_lt : (z : ℤ) → mag z < 2 ^ 31 → of_z w32 z < 2 ^ 32
 of_z_lt (pos n) h = omega arith
@@ -35,8 +35,7 @@ written a x e h = sym (bits_of a (record { sfits = h })) ∙ ap bit_string e
 bitwise : (f : ℕ → ℕ → ℕ) (below : (w a b : ℕ) → a < 2 ^ w → b < 2 ^ w → f a b < 2 ^ w) (x y : Float) (a b : ℤ) → a ≡ to_int32 x → b ≡ to_int32 y → mag a < 2 ^ 31 → mag b < 2 ^ 31
     → to_z w32 (f (of_z w32 a) (of_z w32 b)) ≡ integer_of (f (bit_string (to_int32 x)) (bit_string (to_int32 y)))
 bitwise f below x y a b ax by ha hb =
-    sym (integer_of_lem (f (of_z w32 a) (of_z w32 b)) (below 32 (of_z w32 a) (of_z w32 b) (of_z_lt a ha) (of_z_lt b hb)))
-    ∙ ap (λ (n : ℕ). integer_of (f n (of_z w32 b))) (written a x ax ha) ∙ ap (λ (n : ℕ). integer_of (f (bit_string (to_int32 x)) n)) (written b y by hb)
+    rw (← integer_of_lem (f (of_z w32 a) (of_z w32 b)) (below 32 (of_z w32 a) (of_z w32 b) (of_z_lt a ha) (of_z_lt b hb)), written a x ax ha, written b y by hb)
 
 -- a shift's count
 count : (u : ℕ) (y : Float) → u ≡ to_uint32 y → bit_and u 31 ≡ to_uint32 y % 32
@@ -65,21 +64,15 @@ module _ (x y : Float) where
       → of_int binary64 (to_z w32 (of_z w32 a * 2 ^ bit_and u 31 % 2 ^ 32)) ≡ number_left_shift x y
   unfolding number_left_shift
   left_is a u ax uy h =
-      ap (of_int binary64)
-      (sym (integer_of_lem (of_z w32 a * 2 ^ bit_and u 31 % 2 ^ 32) (low_word (of_z w32 a * 2 ^ bit_and u 31)))
-      ∙ ap (λ (n : ℕ). integer_of (n * 2 ^ bit_and u 31 % 2 ^ 32)) (written a x ax h)
-      ∙ ap (λ (k : ℕ). integer_of (bit_string (to_int32 x) * 2 ^ k % 2 ^ 32)) (count u y uy))
+      rw (← integer_of_lem (of_z w32 a * 2 ^ bit_and u 31 % 2 ^ 32) (low_word (of_z w32 a * 2 ^ bit_and u 31)), written a x ax h, count u y uy)
 
   pub right_is : (a : ℤ) (u : ℕ) → a ≡ to_int32 x → u ≡ to_uint32 y → mag a < 2 ^ 31
       → of_int binary64 (to_z w32 (of_z w32 (shr_z (to_z w32 (of_z w32 a)) (2 ^ bit_and u 31)))) ≡ number_signed_right_shift x y
   unfolding number_signed_right_shift
   right_is a u ax uy h =
-      ap (of_int binary64)
-      (ap (λ (z : ℤ). to_z w32 (of_z w32 (shr_z z (2 ^ bit_and u 31)))) (to_z-of_z w32 a (record { sfits = h }))
-      ∙ to_z-of_z w32 (shr_z a (2 ^ bit_and u 31)) (record { sfits = lt_of_le_of_lt (mag_shr a (2 ^ bit_and u 31)) h })
-      ∙ ap (λ (z : ℤ). shr_z z (2 ^ bit_and u 31)) ax ∙ ap (λ (k : ℕ). shr_z (to_int32 x) (2 ^ k)) (count u y uy))
+      let shifted = to_z-of_z w32 (shr_z a (2 ^ bit_and u 31)) (record { sfits = lt_of_le_of_lt (mag_shr a (2 ^ bit_and u 31)) h }) in
+      rw (to_z-of_z w32 a (record { sfits = h }), shifted, ax, count u y uy)
 
   pub unsigned_is : (u v : ℕ) → u ≡ to_uint32 x → v ≡ to_uint32 y → of_int binary64 (pos (u / 2 ^ bit_and v 31)) ≡ number_unsigned_right_shift x y
   unfolding number_unsigned_right_shift
-  unsigned_is u v ux vy =
-      ap (λ (n : ℕ). of_int binary64 (pos (n / 2 ^ bit_and v 31))) ux ∙ ap (λ (k : ℕ). of_int binary64 (pos (to_uint32 x / 2 ^ k))) (count v y vy)
+  unsigned_is u v ux vy = rw (ux, count v y vy)

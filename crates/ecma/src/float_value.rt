@@ -5,7 +5,8 @@ mod conversions;
 mod fields;
 
 // A Number by its 64 bits. A NaN has one pattern here, the quiet one with a clear sign and no
-// payload, so that equal bits are the same Number.
+// payload, so that equal bits are the same Number. `range` is what the type of the bits says already: a
+// proof that has the value alone, with no code that reads it, does not see that type.
 #[derive(Clone, Copy, PartialEq, Eq, Debug)]
 pub struct FloatValue {
     bits: u64,

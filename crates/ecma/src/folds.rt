@@ -40,6 +40,7 @@ impl From<f64> for Folded {
 }
 
 // What a binary operator gives at two Numbers.
+#[tactic(auto, using(crate::proofs::Order::derived))]
 fn evaluate_numbers(operator: BinaryOperator, l: f64, r: f64) -> Option<Folded>
     ensures { option_map (folded_of (Primitive.number l) (Primitive.number r)) result ≡ binary_fold (λ _. None) operator (Primitive.number l) (Primitive.number r) }
 {
@@ -93,6 +94,7 @@ pub fn evaluate_binary_op(
     Some(folded)
 }
 
+#[tactic(auto, using(crate::proofs::Order::sub_one))]
 pub fn evaluate_update_op(operation: UpdateOperator, value: f64) -> f64
     ensures { result ≡ update_fold operation value }
 {

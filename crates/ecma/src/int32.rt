@@ -1,7 +1,6 @@
 ghost use Rattle.ecma.specs.Integer.{to_int32, to_uint32, truncate};
 ghost use Rattle.ecma.specs.Value.{number_of};
-ghost use Rattle.std.specs.Prelude.{◌≡◌, ◌-◌, ◌*◌, ◌/◌, ◌%◌, ◌^◌, ◌≤◌, ◌||◌, nat_le, if◌then◌else◌, from_bits, nat_lt, unsigned_abs};
-ghost use Rattle.std.specs.Float.{binary64};
+ghost use Rattle.std.specs.Prelude.{◌≡◌, ◌-◌, ◌*◌, ◌/◌, ◌%◌, ◌^◌, ◌≤◌, ◌||◌, nat_le, if◌then◌else◌, nat_lt, unsigned_abs};
 
 use crate::float_value::FloatValue;
 
@@ -29,6 +28,7 @@ fn aligned(digits: u64, exponent: u64) -> u64
 }
 
 // The low 32 bits of the whole part, the sign left out.
+#[tactic(auto, using(crate::proofs::WholePart::low_word))]
 fn magnitude(value: FloatValue) -> u32
     ensures { result ≡ unsigned_abs (truncate (number_of value)) % 2 ^ 32 }
 {
@@ -36,7 +36,7 @@ fn magnitude(value: FloatValue) -> u32
     if vanishes(exponent) {
         return 0;
     }
-    let whole = aligned(value.leading_and_fraction(), exponent);
+    let whole = aligned(value.normal_significand(), exponent);
     (whole & LOW_WORD) as u32
 }
 
@@ -47,6 +47,7 @@ fn with_sign(low: u32, negative: bool) -> u32
     if negative { low.wrapping_neg() } else { low }
 }
 
+#[tactic(auto, using(crate::proofs::WholePart::uint32_is))]
 pub fn to_uint32(x: f64) -> u32
     ensures { result ≡ to_uint32 x }
 {
@@ -54,6 +55,7 @@ pub fn to_uint32(x: f64) -> u32
     with_sign(magnitude(value), value.is_negative())
 }
 
+#[tactic(auto, using(crate::proofs::TwosComplement::int32_is))]
 pub fn to_int32(x: f64) -> i32
     ensures { result ≡ to_int32 x }
 {

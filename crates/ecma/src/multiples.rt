@@ -31,7 +31,7 @@ impl Magnitude {
             }
         } else {
             Magnitude {
-                digits: value.leading_and_fraction(),
+                digits: value.normal_significand(),
                 shift: exponent - 1,
             }
         }
@@ -39,6 +39,7 @@ impl Magnitude {
 }
 
 // left * 2^times modulo the divisor.
+#[tactic(auto, using(crate::proofs::LeftOver::once_more))]
 fn doubled(left: u64, divisor: u64, times: u64) -> u64
     requires below { left < divisor }
     requires fits { divisor < 2 ^ 53 }
@@ -53,6 +54,7 @@ fn doubled(left: u64, divisor: u64, times: u64) -> u64
 }
 
 // The dividend modulo the divisor. A divisor with the larger shift is the larger number.
+#[tactic(auto, using(crate::proofs::LeftOver::by_shifts))]
 fn left_over(dividend: Magnitude, divisor: Magnitude) -> Magnitude
     requires some { 0 < divisor.digits }
     requires leading { 0 < divisor.shift → 2 ^ 52 ≤ divisor.digits }
@@ -70,6 +72,7 @@ fn left_over(dividend: Magnitude, divisor: Magnitude) -> Magnitude
 }
 
 // The bits of 2^shift multiples of 2^-1074.
+#[tactic(auto, using(std::proofs::lemmas::Nat::pow_below))]
 fn power_bits(shift: u64) -> u64
     requires { shift ≤ 2046 }
     ensures value { result ≡ (if nat_lt shift 52 then 2 ^ shift else (shift - 51) * 2 ^ 52) }
@@ -102,6 +105,7 @@ fn finite_remainder(n: f64, d: f64) -> f64
     left.digits as f64 * power(left.shift, dividend.is_negative())
 }
 
+#[tactic(auto, using(crate::proofs::ExactRemainder::at_once))]
 pub(crate) fn remainder(n: f64, d: f64) -> f64
     ensures { result ≡ number_remainder n d }
 {

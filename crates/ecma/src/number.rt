@@ -1,5 +1,5 @@
-// The operations on Numbers that are more than f64's own, one function for each. The remainder has a
-// file to itself.
+// The operations on Numbers that are more than f64's own, one function for each: they differ in the
+// operation, and not in a type or a constant. The remainder has a file to itself.
 ghost use Rattle.ecma.specs.Number.{number_bitwise_and, number_bitwise_or, number_bitwise_xor, number_left_shift, number_less_than, number_signed_right_shift, number_unsigned_right_shift, is_zero};
 ghost use Rattle.ecma.specs.Operators.{is_false, is_true};
 ghost use Rattle.std.specs.Prelude.{◌≡◌};

@@ -5,6 +5,7 @@ ghost use Rattle.std.specs.Prelude.{◌≡◌, to_bits};
 use super::FloatValue;
 
 impl FloatValue {
+    #[tactic(auto, using(crate::proofs::Stored::as_stored))]
     pub fn new(value: f64) -> Self
         ensures value { number_of result ≡ value }
         ensures bits { result.bits ≡ to_bits binary64 value }

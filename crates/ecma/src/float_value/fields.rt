@@ -1,4 +1,4 @@
-// The parts that a Number's bits are cut into.
+// The parts of a Number's bits, cut out by shifts and masks: a rule of the project.
 ghost use Rattle.std.specs.Prelude.{◌≡◌, ◌+◌, ◌/◌, ◌%◌, ◌^◌, nat_le};
 
 use super::FloatValue;
@@ -29,8 +29,8 @@ impl FloatValue {
         self.bits & FRACTION
     }
 
-    // The fraction below a leading one, which is not stored. An exponent of 0 has none.
-    pub(crate) fn leading_and_fraction(self) -> u64
+    // Of a Number whose exponent is not 0: the fraction below a leading one, which is not stored.
+    pub(crate) fn normal_significand(self) -> u64
         ensures { result ≡ 2 ^ 52 + self.bits % 2 ^ 52 }
     {
         self.fraction() | HIDDEN
