@@ -54,12 +54,10 @@ impl ShortNumber {
 pub fn text_number(text: &[u8]) -> Option<f64>
     ensures { result ≡ text_number text.now }
 {
-    let Some((first, rest)) = text.split_first() else {
-        return Some(0.0);
-    };
-    match *first {
-        b'-' => number_after_sign(true, rest),
-        b'+' => number_after_sign(false, rest),
+    match text {
+        [] => Some(0.0),
+        [b'-', rest @ ..] => number_after_sign(true, rest),
+        [b'+', rest @ ..] => number_after_sign(false, rest),
         _ => number_after_sign(false, text),
     }
 }
