@@ -19,7 +19,8 @@ pub fn read<K: IdKind, T: Copy>(entries: &[T], id: Id<K>) -> Option<T>
     numbered.get(id.number() as usize).copied()
 }
 
-// Writes the entry of a number; false where it names none. The bool is the whole answer, as a set's insert gives.
+// Writes the entry of a number; false where it names none. The bool is the whole answer, as a set's insert gives. By an
+// index, since what std promises of get_mut does not tell the slice afterwards.
 pub fn write<K: IdKind, T: Drop>(entries: &mut [T], id: Id<K>, value: T) -> bool
     ensures test { result ≡ nat_lt id.number (room K.LIMIT entries.old) }
     ensures after { entries.new ≡ written K.LIMIT entries.old id.number value }

@@ -114,6 +114,7 @@ fn is_text(front: &[u8], back: &[u8], expected: Option<PrimitiveValue>) -> bool
     }
 }
 
+// By a match: with is_some_and the proof would have to take its closure apart.
 fn is_join(front: &[u8], back: &[u8], whole: &[u8]) -> bool
     ensures { Decides result (front.now ++ back.now ≡ whole.now) }
 {

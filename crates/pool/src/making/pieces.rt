@@ -39,10 +39,9 @@ impl Making<'_> {
         ensures unchanged { OnlyBytes self.old self.new }
         ensures pushed { Pushed (piece_bytes self.old.mark.now.rows self.old.start rows.now pool.old piece.entry) self.old.mark.now.bytes pool.old result self.new.mark.now.bytes pool.new }
     {
-        match piece {
-            Some(Piece::Text(id)) => self.push_text(pool, rows, id),
-            Some(Piece::Bytes(bytes)) => self.push(pool, bytes),
-            None => None,
+        match piece? {
+            Piece::Text(id) => self.push_text(pool, rows, id),
+            Piece::Bytes(bytes) => self.push(pool, bytes),
         }
     }
 
