@@ -30,6 +30,7 @@ impl ShortNumber {
         ShortNumber::of_digits(text)
     }
 
+    // By the table of classes, and not by parse, which would take a sign here.
     #[tactic(auto, using(crate::proofs::DigitValue::below_before, crate::proofs::DigitValue::below_whole, crate::proofs::DigitValue::one_more))]
     fn of_digits(text: &[u8]) -> Option<ShortNumber>
         requires { length text.now ≤ 15 }
