@@ -49,6 +49,7 @@ reserved_words =
     ∷ codes "switch" ∷ codes "this" ∷ codes "throw" ∷ codes "true" ∷ codes "try" ∷ codes "typeof" ∷ codes "var" ∷ codes "void" ∷ codes "while"
     ∷ codes "with" ∷ codes "yield" ∷ []
 
+-- whether a text is a ReservedWord
 abbrev pub is_reserved : List ℕ → Bool
 is_reserved t = list_any (λ w. bytes_eq w t) reserved_words
 

@@ -1,12 +1,13 @@
 // A text's length in UTF-16 code units.
-ghost use Rattle.std.specs.Prelude.{◌≡◌, IsUtf8};
+ghost use Rattle.std.specs.Prelude.{◌≡◌, ◌≤◌, IsUtf8};
 ghost use Rattle.std.specs.Str.{chars};
 ghost use Rattle.text.specs.Units.{JoinAdds, units, units_of_byte, units_of_chars};
 
 use crate::class::{ByteClass, class};
 
 fn units_of_byte(byte: u8) -> usize
-    ensures { result ≡ units_of_byte byte }
+    ensures value { result ≡ units_of_byte byte }
+    ensures small { result ≤ 2 }
 {
     match class(byte) {
         ByteClass::Continuation => 0,
@@ -25,11 +26,7 @@ pub fn utf16_length(bytes: &[u8]) -> usize
     ensures units { result ≡ units bytes.now }
     ensures chars { IsUtf8 bytes.now → result ≡ units_of_chars (chars bytes.now) }
 {
-    let mut length = 0;
-    for byte in bytes {
-        length += units_of_byte(*byte);
-    }
-    length
+    bytes.iter().map(|byte| units_of_byte(*byte)).sum()
 }
 
 // Its contract is the law that the length of a join is the sum.
