@@ -2,6 +2,7 @@ ghost use Rattle.host.specs.DigitHost.{is_name, number_text, text_number};
 ghost use Rattle.host.specs.ShortTexts.{short_text};
 
 use crate::host::Host;
+use crate::number_text::NumberText;
 use crate::{digit_name, digit_number, digit_text};
 
 // Knows the whole numbers up to 2 ^ 53 - 1, NaN and the infinities, texts of few digits, and names
@@ -18,8 +19,8 @@ impl Host for DigitHost {
 
     ghost bounded = { λ h x t e. short_text x t e };
 
-    fn number_text(&self, number: f64, buffer: &mut [u8; 32]) -> Option<usize> {
-        digit_text::number_text(number, buffer)
+    fn number_text(&self, number: f64) -> Option<NumberText> {
+        digit_text::number_text(number)
     }
 
     fn text_number(&self, text: &[u8]) -> Option<f64> {

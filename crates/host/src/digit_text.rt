@@ -1,38 +1,35 @@
 // The text of a number: NaN, the infinities, and the whole numbers up to 2 ^ 53 - 1 either way.
 ghost use Rattle.std.specs.Prelude.{◌≡◌, ◌^◌, ◌<◌, true, if◌then◌else◌, codes};
-ghost use Rattle.host.specs.Answers.{Wrote};
 ghost use Rattle.host.specs.DigitHost.{number_text, whole_text};
 ghost use Rattle.std.specs.Fmt.{signed_decimal};
 ghost use Rattle.std.specs.Option.{option_map};
 ghost use Rattle.std.specs.Float.{float_is_finite};
 
-use crate::write_text::write_text;
+use crate::number_text::NumberText;
 use itoa::Buffer;
 use std::num::saturating_f64_to_u64;
 
 // 2 ^ 53 - 1: up to it every whole number is a float, and no other rounds to it.
 const MAX_SAFE_INTEGER: u64 = 9_007_199_254_740_991;
 
-// The length of the number's text, which is written to the front of the buffer.
 #[tactic(auto, using(crate::proofs::NumberKinds::finite_else, crate::proofs::NumberKinds::text_of_nan, crate::proofs::NumberKinds::text_of_infinite))]
-pub fn number_text(number: f64, buffer: &mut [u8; 32]) -> Option<usize>
-    ensures { Wrote (number_text number) result buffer.new }
+pub fn number_text(number: f64) -> Option<NumberText>
+    ensures { option_map (λ t. t.bytes) result ≡ number_text number }
 {
     if number.is_nan() {
-        return Some(write_text(b"NaN", buffer));
+        return NumberText::from("NaN").ok();
     }
     if number.is_infinite() {
-        return Some(write_text(infinity_text(number.is_sign_negative()), buffer));
+        return NumberText::from(infinity_text(number.is_sign_negative())).ok();
     }
     let whole = whole_number(number)?;
-    let mut digits = Buffer::new();
-    Some(write_text(digits.format(whole).as_bytes(), buffer))
+    NumberText::from(Buffer::new().format(whole)).ok()
 }
 
-fn infinity_text(minus: bool) -> &'static [u8]
+fn infinity_text(minus: bool) -> &'static str
     ensures { result.now ≡ (if minus then codes "-Infinity" else codes "Infinity") }
 {
-    if minus { b"-Infinity" } else { b"Infinity" }
+    if minus { "-Infinity" } else { "Infinity" }
 }
 
 // The whole number that a finite number is, if it has a text.

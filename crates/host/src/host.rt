@@ -1,5 +1,8 @@
 ghost use Rattle.std.specs.Prelude.{◌≡◌, ℕ, Bool, List, Some, Option, Float};
-ghost use Rattle.host.specs.Answers.{Bounded, Wrote};
+ghost use Rattle.std.specs.Option.{option_map};
+ghost use Rattle.host.specs.Answers.{Bounded};
+
+use crate::number_text::NumberText;
 
 // What converts numbers and texts into each other, and judges names. Its meaning is three maps that
 // it holds: it answers exactly what they have, and is silent outside them. A question changes nothing.
@@ -10,9 +13,8 @@ pub trait Host {
 
     ghost names: { Self → List ℕ → Option Bool };
 
-    // The length of the number's text, which is written to the front of the buffer.
-    fn number_text(&self, number: f64, buffer: &mut [u8; 32]) -> Option<usize>
-        ensures { Wrote (texts self.now number) result buffer.new };
+    fn number_text(&self, number: f64) -> Option<NumberText>
+        ensures { option_map (λ t. t.bytes) result ≡ texts self.now number };
 
     fn text_number(&self, text: &[u8]) -> Option<f64>
         ensures { result ≡ numbers self.now text.now };

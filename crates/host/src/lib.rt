@@ -8,11 +8,12 @@ mod digit_text;
 mod examples;
 mod host;
 mod list;
+mod number_text;
 mod pair;
-mod write_text;
 
 pub use digit::DigitHost;
 pub use examples::worked_examples;
 pub use host::Host;
 pub use list::{ListHost, NameEntry, NumberEntry, TextEntry};
+pub use number_text::NumberText;
 pub use pair::PairHost;

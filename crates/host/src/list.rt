@@ -1,5 +1,6 @@
 // A host that answers from lists.
-ghost use Rattle.std.specs.Prelude.{◌≡◌, ◌&&◌, length, nat_le};
+ghost use Rattle.std.specs.Prelude.{◌≡◌, ◌&&◌, Some, length, nat_le};
+ghost use Rattle.host.specs.Answers.{Bounded};
 ghost use Rattle.ecma.specs.Number.{number_same_value};
 ghost use Rattle.host.specs.ListHost.{listed_name, listed_number, listed_text};
 ghost use Rattle.host.specs.ListedTexts.{listed_bounded};
@@ -7,7 +8,7 @@ ghost use Rattle.std.specs.Option.{option_map};
 ghost use Rattle.std.specs.Str.{is_utf8};
 
 use crate::host::Host;
-use crate::write_text::write_text;
+use crate::number_text::NumberText;
 use ecma::same_value;
 use text::is_utf8;
 
@@ -53,9 +54,9 @@ impl Host for ListHost<'_> {
     ghost bounded = { λ h x t e. listed_bounded h.texts.now x t e };
 
     #[tactic(auto, using(crate::specs::ListedTexts::listed_bounded))]
-    fn number_text(&self, number: f64, buffer: &mut [u8; 32]) -> Option<usize> {
+    fn number_text(&self, number: f64) -> Option<NumberText> {
         let text = find_text(self.texts, number)?;
-        Some(write_text(text, buffer))
+        owned(text)
     }
 
     fn text_number(&self, text: &[u8]) -> Option<f64> {
@@ -65,6 +66,15 @@ impl Host for ListHost<'_> {
     fn is_name(&self, text: &[u8]) -> Option<bool> {
         find_name(self.names, text)
     }
+}
+
+// Bytes that can be the text of a number, as such a text.
+fn owned(bytes: &[u8]) -> Option<NumberText>
+    requires { Bounded bytes.now }
+    ensures { option_map (λ t. t.bytes) result ≡ Some bytes.now }
+{
+    let text = std::str::from_utf8(bytes).ok()?;
+    NumberText::from(text).ok()
 }
 
 fn find_text<'a>(entries: &[TextEntry<'a>], number: f64) -> Option<&'a [u8]>

@@ -3,6 +3,7 @@ ghost use Rattle.host.specs.Either.{either};
 ghost use Rattle.host.specs.Answers.{Bounded};
 
 use crate::host::Host;
+use crate::number_text::NumberText;
 
 // Asks the first host and, where that is silent, the second: question by question.
 pub struct PairHost<X, Y> {
@@ -19,12 +20,10 @@ impl<X: Host, Y: Host> Host for PairHost<X, Y> {
 
     ghost bounded = { λ h x t e. either Bounded (X.Host.texts h.first x) (Y.Host.texts h.second x) t (X.Host.bounded h.first x t) (Y.Host.bounded h.second x t) e };
 
-    // No `or_else`: where it does not call a closure that borrows the buffer, nothing is known of the buffer.
-    fn number_text(&self, number: f64, buffer: &mut [u8; 32]) -> Option<usize> {
-        match self.first.number_text(number, buffer) {
-            Some(length) => Some(length),
-            None => self.second.number_text(number, buffer),
-        }
+    fn number_text(&self, number: f64) -> Option<NumberText> {
+        self.first
+            .number_text(number)
+            .or_else(|| self.second.number_text(number))
     }
 
     fn text_number(&self, text: &[u8]) -> Option<f64> {
