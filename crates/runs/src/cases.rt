@@ -4,10 +4,8 @@ ghost use Rattle.runs.specs.Examples.{RunExamples};
 
 pub fn eight_cases()
     ensures { EightCases }
-{
-}
+{}
 
 pub fn run_examples()
     ensures { RunExamples }
-{
-}
+{}

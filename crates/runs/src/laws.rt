@@ -4,10 +4,8 @@ ghost use Rattle.runs.specs.Law.{TurnedWithinSealed};
 
 pub fn folds_are_monotone()
     ensures { FoldsAreMonotone }
-{
-}
+{}
 
 pub fn turned_within_sealed()
     ensures { TurnedWithinSealed }
-{
-}
+{}
