@@ -1,5 +1,5 @@
 -- The 32-bit bit string of an integer is what the machine's i32 holds, and the integer of a bit string is what it reads.
-use lib.Bits.{and_lt, and_mask, bit_and, bit_or, bit_xor, or_lt, xor_lt}
+use lib.Bits.{and_lt, bit_and, bit_or, bit_xor, or_lt, xor_lt}
 use lib.Ieee.{Float, binary64, of_int}
 use Rattle.std.proofs.Common.{◌≡◌, ℕ, suc, ◌-◌, ◌*◌, ◌/◌, ◌%◌, ◌^◌, ◌<◌, ℤ, pos, negsuc, sym, ap, ◌∙◌, lt_of_le_of_lt, mod-eq_of_lt, arith, w32, SFits, to_z, of_z}
 use lib.Signed.{mag, mag_shr, shr_z}
