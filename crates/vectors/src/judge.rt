@@ -87,9 +87,8 @@ fn folds_to(
     ensures { Decides result (binary_fold (λ _. text_number) operator (value_of left.entry) (value_of right.entry) ≡ option_map value_of expected.entry) }
 {
     match evaluate_binary_op(operator, left, right, text_number) {
-        Some(Folded::Boolean(b)) => is_same(Some(b.into()), expected),
-        Some(Folded::Number(x)) => is_same(Some(x.into()), expected),
         Some(Folded::Join) => is_text(bytes_of(left), bytes_of(right), expected),
+        Some(folded) => is_same(folded.value(), expected),
         None => expected.is_none(),
     }
 }
