@@ -113,14 +113,10 @@ fn is_text(front: &[u8], back: &[u8], expected: Option<PrimitiveValue>) -> bool
     }
 }
 
-// By a match: with is_some_and the proof would have to take its closure apart.
 fn is_join(front: &[u8], back: &[u8], whole: &[u8]) -> bool
     ensures { Decides result (front.now ++ back.now ≡ whole.now) }
 {
-    match whole.strip_prefix(front) {
-        Some(rest) => rest == back,
-        None => false,
-    }
+    whole.strip_prefix(front) == Some(back)
 }
 
 fn is_same(found: Option<PrimitiveValue>, expected: Option<PrimitiveValue>) -> bool
