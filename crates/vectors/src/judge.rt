@@ -107,10 +107,7 @@ fn bytes_of<'a>(value: PrimitiveValue<'a>) -> &'a [u8]
 fn is_text(front: &[u8], back: &[u8], expected: Option<PrimitiveValue>) -> bool
     ensures { Decides result (Some (string (front.now ++ back.now)) ≡ option_map value_of expected.entry) }
 {
-    match expected {
-        Some(PrimitiveValue::String(whole)) => is_join(front, back, whole),
-        _ => false,
-    }
+    matches!(expected, Some(PrimitiveValue::String(whole)) if is_join(front, back, whole))
 }
 
 fn is_join(front: &[u8], back: &[u8], whole: &[u8]) -> bool
