@@ -14,9 +14,7 @@ pub struct Row<'a> {
 
 impl fmt::Display for Row<'_> {
     fn fmt<W: fmt::Write>(&self, f: &mut fmt::Formatter<W>) -> fmt::Result {
-        let number = self.number;
-        let name = self.name;
-        write!(f, "#{number} {name}: {} ", self.operation)?;
+        write!(f, "#{} {}: {} ", self.number, self.name, self.operation)?;
         match self.value {
             Some(value) => write!(f, "=> {}", Shown(value)),
             None => write!(f, "stays"),

@@ -5,7 +5,7 @@ use crate::line::Malformed;
 use ecma::{BinaryOperator, UnaryOperator, UpdateOperator};
 use std::str::FromStr;
 
-// What a line asks for.
+// What a line asks for, by its name alone. A `Question` has the operands too, which are read by kinds that differ.
 #[derive(Clone, Copy)]
 pub enum Operation {
     Binary(BinaryOperator),

@@ -63,9 +63,7 @@ impl Tally {
 
 impl fmt::Display for Tally {
     fn fmt<W: fmt::Write>(&self, f: &mut fmt::Formatter<W>) -> fmt::Result {
-        let lines = self.lines;
-        let wrong = self.faults.len();
-        write!(f, "vectors {lines} wrong {wrong}")
+        write!(f, "vectors {} wrong {}", self.lines, self.faults.len())
     }
 }
 
