@@ -1,4 +1,4 @@
--- f64's `%` is Number::remainder.
+-- The remainder of the digits, with the dividend's sign, is Number::remainder.
 use Rattle.std.proofs.Common.{◌≡◌, ℕ, zero, suc, ◌-◌, ◌*◌, ◌/◌, ◌%◌, ◌^◌, ◌<◌, ◌≤◌, Bool, true, false, cond, T, eqb, ℤ, pos, negsuc, ◌-ℤ◌, ◌*ℤ◌, sym, refl, ap, ◌∙◌, lt_irrefl, zero-lt-suc, mul-pos, one-mul, mul-zero, zero-mul, mul-one, arith, eqb→eq}
 use lib.Dec.{eqb-suc-zero}
 use lib.Ieee.{Float, nan, inf, fin, up, down, unlike, binary64, round, rem, fits}

@@ -1,8 +1,9 @@
 -- The 32-bit bit string of an integer is what the machine's i32 holds, and the integer of a bit string is what it reads.
-use lib.Bits.{and_lt, and_mask, bit_and, bit_or, bit_xor, or_lt, xor_lt}
+use lib.Bits.{and_lt, bit_and, bit_or, bit_xor, or_lt, xor_lt}
 use lib.Ieee.{Float, binary64, of_int}
 use Rattle.std.proofs.Common.{◌≡◌, ℕ, suc, ◌-◌, ◌*◌, ◌/◌, ◌%◌, ◌^◌, ◌<◌, ℤ, pos, negsuc, sym, ap, ◌∙◌, lt_of_le_of_lt, mod-eq_of_lt, arith, w32, SFits, to_z, of_z}
 use lib.Signed.{mag, mag_shr, shr_z}
+use Rattle.std.specs.Int.{int_shl}
 use Rattle.std.proofs.lemmas.Int.{ints, to_z-of_z}
 use Rattle.std.proofs.lemmas.Bool.Decides.{nat_tests}
 use Rattle.ecma.specs.Integer.{bit_string, integer_of, modulo, to_int32, to_uint32}
@@ -37,10 +38,6 @@ bitwise : (f : ℕ → ℕ → ℕ) (below : (w a b : ℕ) → a < 2 ^ w → b <
 bitwise f below x y a b ax by ha hb =
     rw (← integer_of_lem (f (of_z w32 a) (of_z w32 b)) (below 32 (of_z w32 a) (of_z w32 b) (of_z_lt a ha) (of_z_lt b hb)), written a x ax ha, written b y by hb)
 
--- a shift's count
-count : (u : ℕ) (y : Float) → u ≡ to_uint32 y → bit_and u 31 ≡ to_uint32 y % 32
-count u y e = and_mask u 5 ∙ ap (λ (n : ℕ). n % 32) e
-
 low_word : (n : ℕ) → n % 2 ^ 32 < 2 ^ 32
 low_word n = omega arith
 
@@ -61,18 +58,18 @@ module _ (x y : Float) where
   xor_is a b ax by ha hb = ap (of_int binary64) (bitwise bit_xor xor_lt x y a b ax by ha hb)
 
   pub left_is : (a : ℤ) (u : ℕ) → a ≡ to_int32 x → u ≡ to_uint32 y → mag a < 2 ^ 31
-      → of_int binary64 (to_z w32 (of_z w32 a * 2 ^ bit_and u 31 % 2 ^ 32)) ≡ number_left_shift x y
+      → of_int binary64 (int_shl w32 (to_z w32 (of_z w32 a)) (u % 32)) ≡ number_left_shift x y
   unfolding number_left_shift
   left_is a u ax uy h =
-      rw (← integer_of_lem (of_z w32 a * 2 ^ bit_and u 31 % 2 ^ 32) (low_word (of_z w32 a * 2 ^ bit_and u 31)), written a x ax h, count u y uy)
+      rw (to_z-of_z w32 a (record { sfits = h }), ← integer_of_lem (of_z w32 a * 2 ^ (u % 32) % 2 ^ 32) (low_word (of_z w32 a * 2 ^ (u % 32))), written a x ax h, uy)
 
   pub right_is : (a : ℤ) (u : ℕ) → a ≡ to_int32 x → u ≡ to_uint32 y → mag a < 2 ^ 31
-      → of_int binary64 (to_z w32 (of_z w32 (shr_z (to_z w32 (of_z w32 a)) (2 ^ bit_and u 31)))) ≡ number_signed_right_shift x y
+      → of_int binary64 (to_z w32 (of_z w32 (shr_z (to_z w32 (of_z w32 a)) (2 ^ (u % 32))))) ≡ number_signed_right_shift x y
   unfolding number_signed_right_shift
   right_is a u ax uy h =
-      let shifted = to_z-of_z w32 (shr_z a (2 ^ bit_and u 31)) (record { sfits = lt_of_le_of_lt (mag_shr a (2 ^ bit_and u 31)) h }) in
-      rw (to_z-of_z w32 a (record { sfits = h }), shifted, ax, count u y uy)
+      let shifted = to_z-of_z w32 (shr_z a (2 ^ (u % 32))) (record { sfits = lt_of_le_of_lt (mag_shr a (2 ^ (u % 32))) h }) in
+      rw (to_z-of_z w32 a (record { sfits = h }), shifted, ax, uy)
 
-  pub unsigned_is : (u v : ℕ) → u ≡ to_uint32 x → v ≡ to_uint32 y → of_int binary64 (pos (u / 2 ^ bit_and v 31)) ≡ number_unsigned_right_shift x y
+  pub unsigned_is : (u v : ℕ) → u ≡ to_uint32 x → v ≡ to_uint32 y → of_int binary64 (pos (u / 2 ^ (v % 32))) ≡ number_unsigned_right_shift x y
   unfolding number_unsigned_right_shift
-  unsigned_is u v ux vy = rw (ux, count v y vy)
+  unsigned_is u v ux vy = rw (ux, vy)

@@ -4,3 +4,4 @@ pub mod Integer
 pub mod Number
 pub mod Operators
 pub mod Value
+pub mod Spelling

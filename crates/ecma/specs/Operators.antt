@@ -78,3 +78,9 @@ abbrev pub folded_of : Primitive → Primitive → Folded → Primitive
 folded_of x y (Boolean b) = boolean b
 folded_of x y (Number n) = number n
 folded_of x y Join = string (bytes x ++ bytes y)
+
+-- the value of an answer that is no join
+abbrev pub value_at_once : Folded → Option Primitive
+value_at_once (Boolean b) = Some (boolean b)
+value_at_once (Number n) = Some (number n)
+value_at_once Join = None

@@ -32,12 +32,8 @@ pub fn is_strictly_equal(x: PrimitiveValue, y: PrimitiveValue) -> bool
     ensures { result ≡ is_strictly_equal (value_of x.entry) (value_of y.entry) }
 {
     match (x, y) {
-        (PrimitiveValue::Null, PrimitiveValue::Null) => true,
-        (PrimitiveValue::Undefined, PrimitiveValue::Undefined) => true,
-        (PrimitiveValue::Boolean(a), PrimitiveValue::Boolean(b)) => a == b,
         (PrimitiveValue::Number(a), PrimitiveValue::Number(b)) => a.value() == b.value(),
-        (PrimitiveValue::String(a), PrimitiveValue::String(b)) => a == b,
-        _ => false,
+        _ => x == y,
     }
 }
 

@@ -1,6 +1,6 @@
 // What an operator gives at known values.
 ghost use Rattle.ecma.specs.declared.folds.Folded.TheVariants.{Boolean, Number};
-ghost use Rattle.ecma.specs.Operators.{binary_fold, folded_of, unary_fold, update_fold};
+ghost use Rattle.ecma.specs.Operators.{binary_fold, folded_of, unary_fold, update_fold, value_at_once};
 ghost use Rattle.ecma.specs.Value.{Primitive, value_of};
 ghost use Rattle.std.specs.Option.{option_map};
 ghost use Rattle.std.specs.Prelude.{◌≡◌, Some, None};
@@ -23,11 +23,24 @@ pub enum Folded {
     Join,
 }
 
+impl Folded {
+    // The value, where there is one at once.
+    pub fn value(self) -> Option<PrimitiveValue<'static>>
+        ensures { option_map value_of result ≡ value_at_once self }
+    {
+        match self {
+            Folded::Boolean(b) => Some(b.into()),
+            Folded::Number(x) => Some(x.into()),
+            Folded::Join => None,
+        }
+    }
+}
+
 impl From<bool> for Folded {
     ghost from_gives = { λ b r. r ≡ Boolean b };
 
     fn from(b: bool) -> Self {
-        Folded::Boolean(b)
+        Self::Boolean(b)
     }
 }
 
@@ -35,7 +48,7 @@ impl From<f64> for Folded {
     ghost from_gives = { λ x r. r ≡ Number x };
 
     fn from(x: f64) -> Self {
-        Folded::Number(x)
+        Self::Number(x)
     }
 }
 

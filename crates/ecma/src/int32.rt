@@ -11,7 +11,7 @@ const LOW_WORD: u64 = 0xffff_ffff;
 fn vanishes(exponent: u64) -> bool
     ensures { result ≡ (nat_lt exponent 1023 || nat_lt 1106 exponent) }
 {
-    exponent < 1023 || exponent > 1106
+    !(1023..=1106).contains(&exponent)
 }
 
 // The 53 digits moved to where the exponent puts them: the fraction falls off below, and what lies

@@ -11,6 +11,7 @@ mod multiples;
 mod number;
 mod operators;
 mod primitive_value;
+mod spelling;
 
 pub use comparison::{converted_text, is_loosely_equal, is_strictly_equal, same_value, to_boolean};
 pub use examples::worked_examples;
@@ -19,3 +20,4 @@ pub use folds::{Folded, evaluate_binary_op, evaluate_unary_op, evaluate_update_o
 pub use int32::{to_int32, to_uint32};
 pub use operators::{BinaryOperator, UnaryOperator, UpdateOperator};
 pub use primitive_value::PrimitiveValue;
+pub use spelling::NoOperator;

@@ -36,6 +36,26 @@ impl Magnitude {
             }
         }
     }
+
+    // The bits of 2^shift multiples of 2^-1074.
+    #[tactic(auto, using(std::proofs::lemmas::Nat::pow_below))]
+    fn power_bits(self) -> u64
+        ensures value { result ≡ (if nat_lt self.shift 52 then 2 ^ self.shift else (self.shift - 51) * 2 ^ 52) }
+        ensures below { result < 2 ^ 63 }
+    {
+        if self.shift < 52 {
+            1 << self.shift
+        } else {
+            (self.shift - 51) << 52
+        }
+    }
+
+    // 2^shift multiples of 2^-1074, with a sign.
+    fn power(self, negative: bool) -> f64
+        ensures { result ≡ from_bits binary64 ((if negative then 2 ^ 63 else 0) + (if nat_lt self.shift 52 then 2 ^ self.shift else (self.shift - 51) * 2 ^ 52)) }
+    {
+        std::num::f64_from_bits_with_nan((u64::from(negative) << 63) + self.power_bits())
+    }
 }
 
 // left * 2^times modulo the divisor.
@@ -71,28 +91,6 @@ fn left_over(dividend: Magnitude, divisor: Magnitude) -> Magnitude
     }
 }
 
-// The bits of 2^shift multiples of 2^-1074.
-#[tactic(auto, using(std::proofs::lemmas::Nat::pow_below))]
-fn power_bits(shift: u64) -> u64
-    requires { shift ≤ 2046 }
-    ensures value { result ≡ (if nat_lt shift 52 then 2 ^ shift else (shift - 51) * 2 ^ 52) }
-    ensures below { result < 2 ^ 63 }
-{
-    if shift < 52 {
-        1 << shift
-    } else {
-        (shift - 51) << 52
-    }
-}
-
-// 2^shift multiples of 2^-1074, with a sign.
-fn power(shift: u64, negative: bool) -> f64
-    requires { shift ≤ 2046 }
-    ensures { result ≡ from_bits binary64 ((if negative then 2 ^ 63 else 0) + (if nat_lt shift 52 then 2 ^ shift else (shift - 51) * 2 ^ 52)) }
-{
-    std::num::f64_from_bits_with_nan((u64::from(negative) << 63) + power_bits(shift))
-}
-
 fn finite_remainder(n: f64, d: f64) -> f64
     requires dividend { float_is_finite n ≡ true }
     requires divisor { float_is_finite d ≡ true }
@@ -102,7 +100,7 @@ fn finite_remainder(n: f64, d: f64) -> f64
     let dividend = FloatValue::new(n);
     let divisor = Magnitude::of(FloatValue::new(d));
     let left = left_over(Magnitude::of(dividend), divisor);
-    left.digits as f64 * power(left.shift, dividend.is_negative())
+    left.digits as f64 * left.power(dividend.is_negative())
 }
 
 #[tactic(auto, using(crate::proofs::ExactRemainder::at_once))]

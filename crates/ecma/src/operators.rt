@@ -1,6 +1,6 @@
-// The operators, in an order that is part of what they mean to a reader of stored scripts.
+// The operators, in the order of the Rust source.
 
-#[derive(Clone, Copy, PartialEq, Eq)]
+#[derive(Clone, Copy, PartialEq, Eq, Debug)]
 pub enum BinaryOperator {
     Addition,
     Subtraction,
@@ -26,7 +26,7 @@ pub enum BinaryOperator {
     Instanceof,
 }
 
-#[derive(Clone, Copy, PartialEq, Eq)]
+#[derive(Clone, Copy, PartialEq, Eq, Debug)]
 pub enum UnaryOperator {
     Minus,
     Plus,
@@ -36,7 +36,7 @@ pub enum UnaryOperator {
     Void,
 }
 
-#[derive(Clone, Copy, PartialEq, Eq)]
+#[derive(Clone, Copy, PartialEq, Eq, Debug)]
 pub enum UpdateOperator {
     Increment,
     Decrement,

@@ -5,11 +5,7 @@ use Rattle.ecma.specs.Value.{Primitive, null, undefined, boolean, number, string
 use Rattle.ecma.specs.declared.primitive_value.PrimitiveValue.{PrimitiveValue}
 use Rattle.fold.specs.declared.operation.Operation.{Operation}
 use Rattle.fold.specs.declared.operation.Operation.TheVariants.{Literal, Unary, Binary}
-use Rattle.std.specs.Option.{option_map}
-
-abbrev bind : {A B : Type 0} → Option A → (A → Option B) → Option B
-bind None f = None
-bind (Some x) f = f x
+use Rattle.std.specs.Option.{option_and_then, option_map}
 
 -- no text is made here: an instruction that gives one is left
 abbrev unless_text : Primitive → Option Primitive
@@ -21,6 +17,7 @@ unless_text (string t) = None
 
 abbrev pub evaluation_of : List (Option PrimitiveValue) → Operation → Option Primitive
 evaluation_of known (Literal x) = Some (number x)
-evaluation_of known (Unary o i) = bind (option_map value_of (slice_index_or known i None)) (unary_fold o)
+evaluation_of known (Unary o i) = option_and_then (unary_fold o) (option_map value_of (slice_index_or known i None))
 evaluation_of known (Binary o i j) =
-    bind (option_map value_of (slice_index_or known i None)) (λ x. bind (option_map value_of (slice_index_or known j None)) (λ y. bind (binary_fold (λ _. None) o x y) unless_text))
+    option_and_then (λ x. option_and_then (λ y. option_and_then unless_text (binary_fold (λ _. None) o x y)) (option_map value_of (slice_index_or known j None)))
+    (option_map value_of (slice_index_or known i None))

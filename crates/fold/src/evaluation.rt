@@ -4,7 +4,7 @@ ghost use Rattle.std.specs.Option.{option_map};
 ghost use Rattle.std.specs.Prelude.{◌≡◌, None, slice_index_or};
 
 use crate::operation::Operation;
-use ecma::{Folded, PrimitiveValue, evaluate_binary_op, evaluate_unary_op};
+use ecma::{PrimitiveValue, evaluate_binary_op, evaluate_unary_op};
 
 // The value of instruction `number`, if it is known.
 fn operand<'a>(known: &[Option<PrimitiveValue<'a>>], number: usize) -> Option<PrimitiveValue<'a>>
@@ -26,11 +26,7 @@ pub fn evaluate<'a>(
         Operation::Binary(operator, left, right) => {
             let lhs = operand(known, left)?;
             let rhs = operand(known, right)?;
-            match evaluate_binary_op(operator, lhs, rhs, None)? {
-                Folded::Boolean(b) => Some(PrimitiveValue::from(b)),
-                Folded::Number(x) => Some(PrimitiveValue::from(x)),
-                Folded::Join => None,
-            }
+            evaluate_binary_op(operator, lhs, rhs, None)?.value()
         }
     }
 }

@@ -14,11 +14,11 @@ use std::io;
 use text::Row;
 
 fn main(rt: HostRuntime) -> io::Result<()> {
-    let mut known: [Option<PrimitiveValue<'static>>; LENGTH] = [None; LENGTH];
-    // by number, and no chain: each instruction reads what the ones before it became
+    let mut known: Vec<Option<PrimitiveValue<'static>>> = Vec::new(rt.alloc());
+    // no chain: each instruction reads what the ones before it became
     for (number, (name, operation)) in SCRIPT.iter().enumerate() {
         let value = evaluate(*operation, &known);
-        known[number] = value;
+        known.push(value)?;
         let row = Row {
             number,
             name,
@@ -28,6 +28,6 @@ fn main(rt: HostRuntime) -> io::Result<()> {
         println!(rt; "{row}")?;
     }
     let folded = known.iter().filter(|value| value.is_some()).count();
-    let left = LENGTH - folded;
+    let left = known.len() - folded;
     println!(rt; "instructions {LENGTH} folded {folded} left {left}")
 }

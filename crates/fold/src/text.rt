@@ -1,6 +1,6 @@
 // The text of a line that is printed.
 use crate::operation::Operation;
-use ecma::{BinaryOperator, PrimitiveValue, UnaryOperator};
+use ecma::{PrimitiveValue, UnaryOperator};
 use std::fmt;
 
 // An instruction with its number and what it stands for, and the value that it became, if any.
@@ -14,9 +14,7 @@ pub struct Row<'a> {
 
 impl fmt::Display for Row<'_> {
     fn fmt<W: fmt::Write>(&self, f: &mut fmt::Formatter<W>) -> fmt::Result {
-        let number = self.number;
-        let name = self.name;
-        write!(f, "#{number} {name}: {} ", self.operation)?;
+        write!(f, "#{} {}: {} ", self.number, self.name, self.operation)?;
         match self.value {
             Some(value) => write!(f, "=> {}", Shown(value)),
             None => write!(f, "stays"),
@@ -29,9 +27,7 @@ impl fmt::Display for Operation {
         match *self {
             Operation::Literal(x) => write_number(x, f),
             Operation::Unary(operator, value) => write!(f, "{}#{value}", prefix(operator)),
-            Operation::Binary(operator, left, right) => {
-                write!(f, "#{left} {} #{right}", infix(operator))
-            }
+            Operation::Binary(operator, left, right) => { write!(f, "#{left} {operator} #{right}") }
         }
     }
 }
@@ -52,7 +48,7 @@ impl fmt::Display for Shown<'_> {
     }
 }
 
-// A finite number, -0 among them, by the shortest digits that read back as it.
+// NaN and the infinities by name, another number, -0 among them, by the shortest digits that read back as it.
 fn write_number<W: fmt::Write>(x: f64, f: &mut fmt::Formatter<W>) -> fmt::Result {
     if x == f64::INFINITY {
         return write!(f, "Infinity");
@@ -63,8 +59,7 @@ fn write_number<W: fmt::Write>(x: f64, f: &mut fmt::Formatter<W>) -> fmt::Result
     write!(f, "{x}")
 }
 
-// Not a Display of the operator, which could stand in ecma alone: each program spells the operators as it prints or
-// reads them.
+// Not a Display of ecma's: `vectors` spells these in words, since a minus is a binary operator there.
 fn prefix(operator: UnaryOperator) -> &'static str {
     match operator {
         UnaryOperator::Minus => "-",
@@ -73,32 +68,5 @@ fn prefix(operator: UnaryOperator) -> &'static str {
         UnaryOperator::BitwiseNot => "~",
         UnaryOperator::TypeOf => "typeof ",
         UnaryOperator::Void => "void ",
-    }
-}
-
-fn infix(operator: BinaryOperator) -> &'static str {
-    match operator {
-        BinaryOperator::Addition => "+",
-        BinaryOperator::Subtraction => "-",
-        BinaryOperator::Multiplication => "*",
-        BinaryOperator::Division => "/",
-        BinaryOperator::Remainder => "%",
-        BinaryOperator::Exponential => "**",
-        BinaryOperator::BitwiseOR => "|",
-        BinaryOperator::BitwiseAnd => "&",
-        BinaryOperator::BitwiseXOR => "^",
-        BinaryOperator::ShiftLeft => "<<",
-        BinaryOperator::ShiftRight => ">>",
-        BinaryOperator::ShiftRightZeroFill => ">>>",
-        BinaryOperator::LessThan => "<",
-        BinaryOperator::LessEqualThan => "<=",
-        BinaryOperator::GreaterThan => ">",
-        BinaryOperator::GreaterEqualThan => ">=",
-        BinaryOperator::StrictEquality => "===",
-        BinaryOperator::StrictInequality => "!==",
-        BinaryOperator::Equality => "==",
-        BinaryOperator::Inequality => "!=",
-        BinaryOperator::In => "in",
-        BinaryOperator::Instanceof => "instanceof",
     }
 }

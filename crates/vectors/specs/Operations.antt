@@ -1,38 +1,12 @@
 -- How a line names its operation.
 use Rattle.std.specs.Prelude.{ℕ, List, codes}
-use Rattle.ecma.specs.declared.operators.BinaryOperator.{BinaryOperator}
-use Rattle.ecma.specs.declared.operators.BinaryOperator.TheVariants.{Addition, Subtraction, Multiplication, Division, Remainder, Exponential, BitwiseOR, BitwiseAnd, BitwiseXOR, ShiftLeft, ShiftRight, ShiftRightZeroFill, LessThan, LessEqualThan, GreaterThan, GreaterEqualThan, StrictEquality, StrictInequality, Equality, Inequality, In, Instanceof}
+use Rattle.ecma.specs.Spelling.{spelling}
 use Rattle.ecma.specs.declared.operators.UnaryOperator.{UnaryOperator}
 use Rattle.ecma.specs.declared.operators.UnaryOperator.TheVariants.{Minus, Plus, Not, BitwiseNot, TypeOf, Void}
 use Rattle.ecma.specs.declared.operators.UpdateOperator.{UpdateOperator}
 use Rattle.ecma.specs.declared.operators.UpdateOperator.TheVariants.{Increment, Decrement}
 use Rattle.vectors.specs.declared.operation.Operation.{Operation}
 use Rattle.vectors.specs.declared.operation.Operation.TheVariants.{Binary, Unary, Update, ToInt32, ToUint32, ToBoolean, SameValue}
-
--- as JavaScript spells them
-abbrev pub binary_name : BinaryOperator → List ℕ
-binary_name Addition = codes "+"
-binary_name Subtraction = codes "-"
-binary_name Multiplication = codes "*"
-binary_name Division = codes "/"
-binary_name Remainder = codes "%"
-binary_name Exponential = codes "**"
-binary_name BitwiseOR = codes "|"
-binary_name BitwiseAnd = codes "&"
-binary_name BitwiseXOR = codes "^"
-binary_name ShiftLeft = codes "<<"
-binary_name ShiftRight = codes ">>"
-binary_name ShiftRightZeroFill = codes ">>>"
-binary_name LessThan = codes "<"
-binary_name LessEqualThan = codes "<="
-binary_name GreaterThan = codes ">"
-binary_name GreaterEqualThan = codes ">="
-binary_name StrictEquality = codes "==="
-binary_name StrictInequality = codes "!=="
-binary_name Equality = codes "=="
-binary_name Inequality = codes "!="
-binary_name In = codes "in"
-binary_name Instanceof = codes "instanceof"
 
 abbrev pub unary_name : UnaryOperator → List ℕ
 unary_name Minus = codes "neg"
@@ -47,7 +21,7 @@ update_name Increment = codes "inc"
 update_name Decrement = codes "dec"
 
 abbrev pub operation_name : Operation → List ℕ
-operation_name (Binary o) = binary_name o
+operation_name (Binary o) = spelling o
 operation_name (Unary o) = unary_name o
 operation_name (Update o) = update_name o
 operation_name ToInt32 = codes "ToInt32"

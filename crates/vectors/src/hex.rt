@@ -12,6 +12,7 @@ fn digit(byte: u8) -> Option<u8>
     }
 }
 
+// One byte's digits, which need no loop.
 pub fn byte(high: u8, low: u8) -> Option<u8>
     ensures { result ≡ number (high ∷ low ∷ []) }
 {

@@ -87,9 +87,8 @@ fn folds_to(
     ensures { Decides result (binary_fold (λ _. text_number) operator (value_of left.entry) (value_of right.entry) ≡ option_map value_of expected.entry) }
 {
     match evaluate_binary_op(operator, left, right, text_number) {
-        Some(Folded::Boolean(b)) => is_same(Some(b.into()), expected),
-        Some(Folded::Number(x)) => is_same(Some(x.into()), expected),
         Some(Folded::Join) => is_text(bytes_of(left), bytes_of(right), expected),
+        Some(folded) => is_same(folded.value(), expected),
         None => expected.is_none(),
     }
 }
@@ -108,20 +107,13 @@ fn bytes_of<'a>(value: PrimitiveValue<'a>) -> &'a [u8]
 fn is_text(front: &[u8], back: &[u8], expected: Option<PrimitiveValue>) -> bool
     ensures { Decides result (Some (string (front.now ++ back.now)) ≡ option_map value_of expected.entry) }
 {
-    match expected {
-        Some(PrimitiveValue::String(whole)) => is_join(front, back, whole),
-        _ => false,
-    }
+    matches!(expected, Some(PrimitiveValue::String(whole)) if is_join(front, back, whole))
 }
 
-// By a match: with is_some_and the proof would have to take its closure apart.
 fn is_join(front: &[u8], back: &[u8], whole: &[u8]) -> bool
     ensures { Decides result (front.now ++ back.now ≡ whole.now) }
 {
-    match whole.strip_prefix(front) {
-        Some(rest) => rest == back,
-        None => false,
-    }
+    whole.strip_prefix(front) == Some(back)
 }
 
 fn is_same(found: Option<PrimitiveValue>, expected: Option<PrimitiveValue>) -> bool

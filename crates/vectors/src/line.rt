@@ -1,7 +1,7 @@
 // A line is `OPERATION OPERAND.. = EXPECTED`, its parts separated by one space. A part is
 //
 //     16 upper-case hex digits           a number, by its 64 bits; NaN is 7FF8000000000000
-//     "..."                              a text, by its bytes: printable ASCII other than " and \
+//     "..."                              a text, by its bytes, 255 at most: printable ASCII other than " and \
 //                                        as itself, any other byte as \ and two upper-case hex digits
 //     null  undefined  true  false
 //     none                               as EXPECTED: the operation must not fold

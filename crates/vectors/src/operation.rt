@@ -1,11 +1,11 @@
 ghost use Rattle.std.specs.Prelude.{◌≡◌, IfOk, IfSome};
-ghost use Rattle.vectors.specs.Operations.{binary_name, operation_name, unary_name};
+ghost use Rattle.vectors.specs.Operations.{operation_name, unary_name};
 
 use crate::line::Malformed;
 use ecma::{BinaryOperator, UnaryOperator, UpdateOperator};
 use std::str::FromStr;
 
-// What a line asks for.
+// What a line asks for, by its name alone. A `Question` has the operands too, which are read by kinds that differ.
 #[derive(Clone, Copy)]
 pub enum Operation {
     Binary(BinaryOperator),
@@ -23,7 +23,7 @@ impl FromStr for Operation {
     ghost from_str_gives = { λ name r. IfOk r (λ o. operation_name o ≡ name) };
 
     fn from_str(name: &str) -> Result<Operation, Malformed> {
-        if let Some(operator) = binary(name) {
+        if let Ok(operator) = name.parse() {
             return Ok(Operation::Binary(operator));
         }
         if let Some(operator) = unary(name) {
@@ -41,37 +41,7 @@ impl FromStr for Operation {
     }
 }
 
-// The operator that JavaScript spells so.
-fn binary(name: &str) -> Option<BinaryOperator>
-    ensures { IfSome result (λ o. binary_name o ≡ name.now) }
-{
-    match name {
-        "+" => Some(BinaryOperator::Addition),
-        "-" => Some(BinaryOperator::Subtraction),
-        "*" => Some(BinaryOperator::Multiplication),
-        "/" => Some(BinaryOperator::Division),
-        "%" => Some(BinaryOperator::Remainder),
-        "**" => Some(BinaryOperator::Exponential),
-        "|" => Some(BinaryOperator::BitwiseOR),
-        "&" => Some(BinaryOperator::BitwiseAnd),
-        "^" => Some(BinaryOperator::BitwiseXOR),
-        "<<" => Some(BinaryOperator::ShiftLeft),
-        ">>" => Some(BinaryOperator::ShiftRight),
-        ">>>" => Some(BinaryOperator::ShiftRightZeroFill),
-        "<" => Some(BinaryOperator::LessThan),
-        "<=" => Some(BinaryOperator::LessEqualThan),
-        ">" => Some(BinaryOperator::GreaterThan),
-        ">=" => Some(BinaryOperator::GreaterEqualThan),
-        "===" => Some(BinaryOperator::StrictEquality),
-        "!==" => Some(BinaryOperator::StrictInequality),
-        "==" => Some(BinaryOperator::Equality),
-        "!=" => Some(BinaryOperator::Inequality),
-        "in" => Some(BinaryOperator::In),
-        "instanceof" => Some(BinaryOperator::Instanceof),
-        _ => None,
-    }
-}
-
+// In words, since a minus is a binary operator here.
 fn unary(name: &str) -> Option<UnaryOperator>
     ensures { IfSome result (λ o. unary_name o ≡ name.now) }
 {

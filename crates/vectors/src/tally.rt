@@ -6,7 +6,8 @@ use std::alloc::{AllocError, Global};
 use std::fmt;
 
 // A line that is not right. The first line is number 1.
-#[derive(Clone, Copy, PartialEq, Eq, Debug)]
+#[derive(Clone, Copy, PartialEq, Eq, Debug, thiserror::Error)]
+#[error("line {line}: {flaw}")]
 pub struct Fault {
     pub line: usize,
     pub flaw: Flaw,
@@ -60,19 +61,9 @@ impl Tally {
     }
 }
 
-impl fmt::Display for Fault {
-    fn fmt<W: fmt::Write>(&self, f: &mut fmt::Formatter<W>) -> fmt::Result {
-        let line = self.line;
-        let flaw = self.flaw;
-        write!(f, "line {line}: {flaw}")
-    }
-}
-
 impl fmt::Display for Tally {
     fn fmt<W: fmt::Write>(&self, f: &mut fmt::Formatter<W>) -> fmt::Result {
-        let lines = self.lines;
-        let wrong = self.faults.len();
-        write!(f, "vectors {lines} wrong {wrong}")
+        write!(f, "vectors {} wrong {}", self.lines, self.faults.len())
     }
 }
 

@@ -5,7 +5,7 @@ ghost use Rattle.std.specs.Prelude.{◌≡◌};
 use arrayvec::ArrayVec;
 use ecma::PrimitiveValue;
 
-// The bytes of a text, which need not be UTF-8.
+// The bytes of a text, which need not be UTF-8, as many as a line may write.
 pub type Text = ArrayVec<u8, 255>;
 
 // A primitive value that keeps its text. Not one enum with ecma's and a parameter for the text: the borrow checker does

@@ -3,7 +3,8 @@ use Rattle.std.proofs.Common.{◌≡◌, ℕ, ◌+◌, ◌*◌, ◌^◌, ◌<◌
 use native.Mathlib.Nat.{pow-le-pow_right}
 use Rattle.std.proofs.lemmas.List.{at_drop_more}
 use Rattle.std.proofs.lemmas.Bool.Decides.{nat_tests}
-use Rattle.vectors.specs.Hex.{digit_of, with_digit, number_after}
+use Rattle.vectors.specs.Hex.{digit_of, number_after}
+use Rattle.std.specs.Option.{option_and_then}
 use Rattle.vectors.proofs.hex.word.Goals as goal
 
 small : (b d : ℕ) → Some d ≡ digit_of b → d < 16
@@ -20,9 +21,9 @@ sixteen n i h k =
     omega arith
 
 next : (n i : ℕ) (ds : List ℕ) (o : Option ℕ) → i < length ds → o ≡ digit_of (get_or ds i 0)
-    → number_after n (drop i ds) ≡ with_digit o (λ d. number_after (n * 16 + d) (drop (i + 1) ds))
+    → number_after n (drop i ds) ≡ option_and_then (λ d. number_after (n * 16 + d) (drop (i + 1) ds)) o
 next n i ds o h e =
-    at_drop_more (number_after n) ds i 0 h ∙ ap (λ (p : Option ℕ). with_digit p (λ d. number_after (n * 16 + d) (drop (i + 1) ds))) (sym e)
+    at_drop_more (number_after n) ds i 0 h ∙ ap (λ (p : Option ℕ). option_and_then (λ d. number_after (n * 16 + d) (drop (i + 1) ds)) p) (sym e)
 
 pub overflow_mul-number : goal.overflow_mul-number
 overflow_mul-number c =
