@@ -7,7 +7,7 @@ ghost use Rattle.std.specs.Str.Parse.{digits_value};
 ghost use Rattle.text.specs.Classes.{is_digit};
 ghost use Rattle.std.specs.Float.{inf};
 
-use text::class::class;
+use text::ByteClass;
 
 // So many digits write a number that a float holds.
 const MOST_DIGITS: usize = 15;
@@ -88,7 +88,7 @@ fn infinity(minus: bool) -> f64
 fn digit(byte: u8) -> Option<u64>
     ensures { result ≡ (if is_digit byte then Some (byte - 48) else None) }
 {
-    if class(byte).is_digit() {
+    if ByteClass::from(byte).is_digit() {
         Some(u64::from(byte - b'0'))
     } else {
         None
