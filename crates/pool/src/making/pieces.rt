@@ -17,7 +17,7 @@ impl Making<'_> {
     {
         let row = text_row(self.mark, rows, id)?;
         // not a filter, which is as long, and whose closure the proof would have to unfold
-        if row.start as u64 + row.len as u64 <= self.start as u64 {
+        if row.end() <= self.start as usize {
             Some(row)
         } else {
             None
