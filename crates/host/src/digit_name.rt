@@ -52,10 +52,8 @@ const RESERVED: [&[u8]; 38] = [
 pub fn is_name(text: &[u8]) -> Option<bool>
     ensures { result ≡ is_name text.now }
 {
-    if !text.is_ascii() {
-        return None;
-    }
-    Some(is_identifier_name(text) && !is_reserved(text))
+    text.is_ascii()
+        .then(|| is_identifier_name(text) && !is_reserved(text))
 }
 
 fn is_identifier_name(text: &[u8]) -> bool

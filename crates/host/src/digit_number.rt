@@ -88,9 +88,7 @@ fn infinity(minus: bool) -> f64
 fn digit(byte: u8) -> Option<u64>
     ensures { result ≡ (if is_digit byte then Some (byte - 48) else None) }
 {
-    if ByteClass::from(byte).is_digit() {
-        Some(u64::from(byte - b'0'))
-    } else {
-        None
-    }
+    ByteClass::from(byte)
+        .is_digit()
+        .then(|| u64::from(byte - b'0'))
 }
