@@ -42,7 +42,7 @@ fn unsigned(text: &[u8]) -> Option<f64>
 }
 
 // The number that 1 to 15 digits write. By the table of classes, and not by parse, which would take a sign here.
-#[tactic(auto, using(crate::proofs::DigitValue::below_before, crate::proofs::DigitValue::below_whole, crate::proofs::DigitValue::one_more))]
+#[tactic(auto, using(crate::proofs::DigitValue::below, crate::proofs::DigitValue::one_more))]
 fn short_number(text: &[u8]) -> Option<f64>
     ensures { result ≡ (if list_all is_digit text.now && (nat_le 1 (length text.now) && nat_le (length text.now) 15) then Some (signed_number false (digits_value 10 text.now)) else None) }
 {
