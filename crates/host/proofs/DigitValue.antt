@@ -1,6 +1,5 @@
 -- The number that a text of digits writes, digit by digit: what a digit adds, and how large the number can be.
-use Rattle.std.proofs.Common.{◌≡◌, ℕ, ◌+◌, ◌*◌, ◌-◌, ◌^◌, ◌<◌, ◌≤◌, true, List, length, get_or, take, ap, ◌∙◌, rules, arith}
-use Rattle.std.proofs.lemmas.List.{length-take-le, take_all}
+use Rattle.std.proofs.Common.{◌≡◌, ℕ, ◌+◌, ◌*◌, ◌-◌, ◌^◌, ◌<◌, ◌≤◌, true, List, length, get_or, take, ◌∙◌, rules, arith, length-take}
 use Rattle.std.proofs.lemmas.List.Folds.{list_all_more}
 use Rattle.std.proofs.lemmas.Int.Digits.{digits_value_more}
 use Rattle.std.proofs.lemmas.Str.Parse.{IsNumeralModel, numerals_by_value, digits_value_short}
@@ -17,11 +16,11 @@ digit_adds : (b : ℕ) → is_digit b ≡ true → digit_value b ≡ b - 48
 digit_adds b h = grind (arith, nat_tests)
 
 -- before the last of 15 digits, and with it
-pub below_before : (t : List ℕ) (i : ℕ) → list_all is_digit (take i t) ≡ true → i < length t → length t ≤ 15 → digits_value 10 (take i t) < 10 ^ 14
-below_before t i d h g = digits_value_short numerals (take i t) 14 d (omega (arith, length-take-le i t (omega arith)))
-
-pub below_whole : (t : List ℕ) (i : ℕ) → list_all is_digit (take i t) ≡ true → length t ≤ i → length t ≤ 15 → digits_value 10 (take i t) < 10 ^ 15
-below_whole t i d h g = digits_value_short numerals (take i t) 15 d (omega (arith, ap length (take_all i t h)))
+pub below : (t : List ℕ) (i : ℕ) → list_all is_digit (take i t) ≡ true → length t ≤ 15 → (i < length t → digits_value 10 (take i t) < 10 ^ 14) × (digits_value 10 (take i t) < 10 ^ 15)
+below t i d g =
+    let short = λ (k : ℕ) (h : length (take i t) ≤ k). digits_value_short numerals (take i t) k d h in
+    let e = length-take i t in
+    (λ h. short 14 (omega (arith, e)), short 15 (omega (arith, e)))
 
 pub one_more : (t : List ℕ) (i : ℕ) → list_all is_digit (take i t) ≡ true → i < length t → is_digit (get_or t i 0) ≡ true
     → (list_all is_digit (take (i + 1) t) ≡ true) × (digits_value 10 (take (i + 1) t) ≡ digits_value 10 (take i t) * 10 + (get_or t i 0 - 48))

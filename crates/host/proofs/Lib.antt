@@ -3,4 +3,5 @@ mod ByClass
 mod DigitValue
 mod FloatLiterals
 mod NumberKinds
+mod Signs
 mod WholeNumber

@@ -1,11 +1,12 @@
 -- Each text of a number has at most 32 bytes, and all of them are ASCII.
-use Rattle.std.specs.Prelude.{◌≡◌, ℕ, zero, suc, ◌-◌, ◌*◌, ◌/◌, ◌%◌, ◌^◌, ◌<◌, ◌≤◌, Bool, true, false, cond, ◌&&◌, List, ◌∷◌, length, Some, None, codes, decimal, ◌==◌, nat_le, Float, Decides, refl}
+use Rattle.std.specs.Prelude.{◌≡◌, ℕ, zero, suc, ◌-◌, ◌*◌, ◌/◌, ◌%◌, ◌^◌, ◌<◌, ◌≤◌, Bool, true, false, ◌&&◌, List, ◌∷◌, length, Some, codes, decimal, ◌==◌, nat_le, Float, Decides, refl}
 use Rattle.std.specs.Float.{nan, inf, fin}
 use Rattle.std.specs.Float.Ieee.{up, down}
 use Rattle.std.proofs.Common.{subst, arith}
 use Rattle.host.specs.Answers.{Bounded}
 use Rattle.host.specs.DigitHost.{number_text, whole_text}
 use Rattle.std.proofs.lemmas.Str.Ascii.{IsAscii-cons}
+use Rattle.std.proofs.lemmas.Option.{cond_some}
 use Rattle.std.proofs.lemmas.Fmt.{IsAscii-decimal, length-decimal-le}
 use Rattle.std.proofs.lemmas.Bool.{and_parts, leb-true}
 use Rattle.std.proofs.lemmas.Str.{IsUtf8-from_ascii}
@@ -36,15 +37,11 @@ whole true (suc n) h =
     let most = length-decimal-le 16 (suc n) (omega arith) (omega arith) (omega arith) in
     record { short = omega arith; valid = IsUtf8-from_ascii (45 ∷ decimal (suc n)) (IsAscii-cons 45 (decimal (suc n)) (omega arith) (IsAscii-decimal (suc n) (omega arith))) }
 
-given : (b : Bool) (v t : List ℕ) → cond b (Some v) None ≡ Some t → (b ≡ true) × (v ≡ t)
-given true v t e = (refl, cc)
-given false v t e = (cc, cc)
-
 pub short_text : (x : Float) (t : List ℕ) → number_text x ≡ Some t → Bounded t
 short_text nan t e = let is : codes "NaN" ≡ t = cc in subst Bounded is (fixed (codes "NaN") refl refl)
 short_text (inf true) t e = let is : codes "-Infinity" ≡ t = cc in subst Bounded is (fixed (codes "-Infinity") refl refl)
 short_text (inf false) t e = let is : codes "Infinity" ≡ t = cc in subst Bounded is (fixed (codes "Infinity") refl refl)
 short_text (fin s m e) t h =
-    let g = given (m * up e % down e == 0 && nat_le (m * up e / down e) (2 ^ 53 - 1)) (whole_text s (m * up e / down e)) t h in
+    let g = cond_some (m * up e % down e == 0 && nat_le (m * up e / down e) (2 ^ 53 - 1)) (whole_text s (m * up e / down e)) t h in
     let low = leb-true (m * up e / down e) (2 ^ 53 - 1) (and_parts (m * up e % down e == 0) (nat_le (m * up e / down e) (2 ^ 53 - 1)) g.0).1 in
     subst Bounded g.1 (whole s (m * up e / down e) low)

@@ -4,7 +4,7 @@ ghost use Rattle.std.specs.List.{list_all};
 ghost use Rattle.std.specs.Prelude.{◌≡◌, ◌||◌};
 ghost use Rattle.text.specs.Classes.{is_digit, is_name_start};
 
-use text::class::class;
+use text::ByteClass;
 
 const RESERVED: [&[u8]; 38] = [
     b"await",
@@ -52,10 +52,8 @@ const RESERVED: [&[u8]; 38] = [
 pub fn is_name(text: &[u8]) -> Option<bool>
     ensures { result ≡ is_name text.now }
 {
-    if !text.is_ascii() {
-        return None;
-    }
-    Some(is_identifier_name(text) && !is_reserved(text))
+    text.is_ascii()
+        .then(|| is_identifier_name(text) && !is_reserved(text))
 }
 
 fn is_identifier_name(text: &[u8]) -> bool
@@ -64,7 +62,7 @@ fn is_identifier_name(text: &[u8]) -> bool
     let [first, rest @ ..] = text else {
         return false;
     };
-    class(*first).is_name_start() && are_name_parts(rest)
+    ByteClass::from(*first).is_name_start() && are_name_parts(rest)
 }
 
 fn are_name_parts(text: &[u8]) -> bool
@@ -77,7 +75,7 @@ fn are_name_parts(text: &[u8]) -> bool
 fn is_name_part(byte: u8) -> bool
     ensures { result ≡ (is_name_start byte || is_digit byte) }
 {
-    class(byte).is_name_part()
+    ByteClass::from(byte).is_name_part()
 }
 
 fn is_reserved(text: &[u8]) -> bool

@@ -16,14 +16,15 @@ const MAX_SAFE_INTEGER: u64 = 9_007_199_254_740_991;
 pub fn number_text(number: f64) -> Option<NumberText>
     ensures { option_map (λ t. t.bytes) result ≡ number_text number }
 {
-    if number.is_nan() {
-        return NumberText::from("NaN").ok();
-    }
-    if number.is_infinite() {
-        return NumberText::from(infinity_text(number.is_sign_negative())).ok();
-    }
-    let whole = whole_number(number)?;
-    NumberText::from(Buffer::new().format(whole)).ok()
+    let mut buffer = Buffer::new();
+    let text = if number.is_nan() {
+        "NaN"
+    } else if number.is_infinite() {
+        infinity_text(number.is_sign_negative())
+    } else {
+        buffer.format(whole_number(number)?)
+    };
+    NumberText::from(text).ok()
 }
 
 fn infinity_text(minus: bool) -> &'static str
@@ -43,11 +44,7 @@ fn whole_number(number: f64) -> Option<i64>
     if whole > MAX_SAFE_INTEGER {
         return None;
     }
-    if whole as f64 == size {
-        Some(with_sign(whole, number.is_sign_negative()))
-    } else {
-        None
-    }
+    (whole as f64 == size).then(|| with_sign(whole, number.is_sign_negative()))
 }
 
 // A zero has no sign.

@@ -2,18 +2,15 @@
 ghost use Rattle.std.specs.Prelude.{◌≡◌, ◌&&◌, Some, length, nat_le};
 ghost use Rattle.host.specs.Answers.{Bounded};
 ghost use Rattle.ecma.specs.Number.{number_same_value};
-ghost use Rattle.host.specs.ListHost.{listed_name, listed_number, listed_text};
+ghost use Rattle.host.specs.ListHost.{can_be_number_text, listed_name, listed_number, listed_text};
 ghost use Rattle.host.specs.ListedTexts.{listed_bounded};
 ghost use Rattle.std.specs.Option.{option_map};
 ghost use Rattle.std.specs.Str.{is_utf8};
 
 use crate::host::Host;
-use crate::number_text::NumberText;
+use crate::number_text::{LONGEST, NumberText};
 use ecma::same_value;
 use text::is_utf8;
-
-// The text of a number is no longer.
-const LONGEST: usize = 32;
 
 // The text of a number. The entries' types differ by their fields' names, which say what each list holds.
 #[derive(Clone, Copy)]
@@ -106,7 +103,7 @@ fn find_name(entries: &[NameEntry], text: &[u8]) -> Option<bool>
 
 // Whether the entry has a text for the number.
 fn has_text(entry: &TextEntry, number: f64) -> bool
-    ensures { result ≡ (number_same_value number entry.now.number && (nat_le (length entry.now.text.now) 32 && is_utf8 entry.now.text.now)) }
+    ensures { result ≡ (number_same_value number entry.now.number && can_be_number_text entry.now.text.now) }
 {
     same_number(number, entry.number) && is_text(entry.text)
 }
@@ -117,9 +114,9 @@ fn same_number(a: f64, b: f64) -> bool
     same_value(a.into(), b.into())
 }
 
-// Whether bytes can be the text of a number: at most 32, and UTF-8.
+// Whether bytes can be the text of a number: few enough, and UTF-8.
 fn is_text(bytes: &[u8]) -> bool
-    ensures { result ≡ (nat_le (length bytes.now) 32 && is_utf8 bytes.now) }
+    ensures { result ≡ can_be_number_text bytes.now }
 {
     bytes.len() <= LONGEST && is_utf8(bytes)
 }

@@ -1,4 +1,7 @@
 use arrayvec::ArrayString;
 
-// The text of a number, which has at most 32 bytes.
-pub type NumberText = ArrayString<32>;
+// No text of a number is longer.
+pub(crate) const LONGEST: usize = 32;
+
+// The text of a number.
+pub type NumberText = ArrayString<LONGEST>;

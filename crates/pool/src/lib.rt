@@ -1,3 +1,4 @@
+// Texts of UTF-8 in lent memory, each with a number: adding one, finding one, and making one out of pieces.
 #![tactic(auto)]
 
 mod make;

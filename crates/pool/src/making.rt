@@ -5,13 +5,13 @@ ghost use Rattle.std.proofs.Math.Seq.{paste};
 
 use crate::mark::Mark;
 use crate::row::TextRow;
-use table::{Id, Table, TextId};
+use table::{Id, TextId, write};
 
 mod pieces;
 
 const LIMIT: usize = 65536;
 
-// How many bytes of the pool may be used.
+// How many bytes of the pool may be used. Not by table's capacity: a kind of number for the pool's bytes would be longer.
 pub fn capacity(pool: &[u8]) -> usize
     ensures { result ≡ bytes_room pool.now }
 {
@@ -40,7 +40,7 @@ fn repeat(pool: &mut [u8], from: usize, len: usize, at: usize)
 pub struct Making<'m> {
     mark: &'m mut Mark,
     start: u32,
-    // not an Option of the start, which is asked for after the text is kept too
+    // Not an Option of the start: push_part and keep read the start also after a text is kept.
     kept: bool,
     ghost begun: { start ≤ mark.now.bytes },
 }
@@ -74,7 +74,8 @@ impl<'m> Making<'m> {
         }
     }
 
-    // Adds bytes; nothing is done where they do not fit.
+    // Adds bytes; nothing is done where they do not fit. An Option and no Result, here and at push_part: missing pieces are
+    // asked for first, so that who calls knows why it failed.
     pub fn push(&mut self, pool: &mut [u8], piece: &[u8]) -> Option<()>
         ensures unchanged { OnlyBytes self.old self.new }
         ensures test { is_some result ≡ nat_le (self.old.mark.now.bytes + length piece.now) (bytes_room pool.old) }
@@ -83,7 +84,7 @@ impl<'m> Making<'m> {
     {
         let used = self.mark.bytes as usize;
         let room = capacity(pool);
-        if used > room || piece.len() > room - used {
+        if used + piece.len() > room {
             return None;
         }
         overwrite(pool, used, piece);
@@ -100,14 +101,12 @@ impl<'m> Making<'m> {
         ensures pool { pool.new ≡ (if is_some result then paste pool.old self.old.mark.now.bytes (take part.len (drop part.start pool.old)) part.len else pool.old) }
     {
         let used = self.mark.bytes as usize;
-        let start = self.start as usize;
-        let from = part.start as usize;
         let len = part.len as usize;
         let room = capacity(pool);
-        if from + len > start || start > used || used + len > room {
+        if part.end() > self.start as usize || used + len > room {
             return None;
         }
-        repeat(pool, from, len, used);
+        repeat(pool, part.start as usize, len, used);
         self.mark.bytes = (used + len) as u32;
         Some(())
     }
@@ -123,10 +122,11 @@ impl<'m> Making<'m> {
         ensures rows { rows.new ≡ (if is_some result then set rows.old self.old.mark.now.rows (record { start = self.old.start; len = self.old.mark.now.bytes - self.old.start }) else rows.old) }
     {
         let id = Id::new(self.mark.rows);
-        let start = self.start;
-        let len = self.mark.bytes.saturating_sub(start);
-        let mut table = Table::over(rows);
-        if !table.set(id, TextRow { start, len }) {
+        let row = TextRow {
+            start: self.start,
+            len: self.mark.bytes - self.start,
+        };
+        if !write(rows, id, row) {
             return None;
         }
         self.mark.rows += 1;

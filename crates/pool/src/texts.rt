@@ -30,8 +30,7 @@ pub fn text_row(mark: &Mark, rows: &[TextRow], id: TextId) -> Option<TextRow>
 fn part(pool: &[u8], row: TextRow) -> Option<&[u8]>
     ensures { option_map (λ t. t.now) result ≡ (if nat_le (row.start + row.len) (length pool.now) then Some (text_at pool.now row) else None) }
 {
-    let start = row.start as usize;
-    pool.get(start..start + row.len as usize)
+    pool.get(row.start as usize..row.end())
 }
 
 // The bytes of a text, if the number names one.

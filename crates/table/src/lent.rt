@@ -40,6 +40,7 @@ pub struct Table<'a, K, T> {
     kind: PhantomData<K>,
 }
 
+// The methods pass the slice on to the functions above, which also serve slices without a Table.
 impl<'a, K: IdKind, T> Table<'a, K, T> {
     pub fn over(entries: &'a mut [T]) -> Self
         ensures same { result.entries.now ≡ entries.old }

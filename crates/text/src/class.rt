@@ -45,10 +45,12 @@ const CLASSES: &[ByteClass; 256] = &[
     L4, L4, L4, L4, L4, No, No, No, No, No, No, No, No, No, No, No, // F0
 ];
 
-pub fn class(byte: u8) -> ByteClass
-    ensures { result ≡ class_of byte }
-{
-    CLASSES[byte as usize]
+impl From<u8> for ByteClass {
+    ghost from_gives = { λ b c. c ≡ class_of b };
+
+    fn from(byte: u8) -> ByteClass {
+        CLASSES[byte as usize]
+    }
 }
 
 impl ByteClass {

@@ -1,7 +1,7 @@
 // Bytes of a text: their classes, UTF-8, and the length in UTF-16.
 #![tactic(auto)]
 
-pub mod class;
+mod class;
 mod units;
 mod utf8;
 

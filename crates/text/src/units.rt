@@ -3,22 +3,17 @@ ghost use Rattle.std.specs.Prelude.{◌≡◌, ◌≤◌, IsUtf8};
 ghost use Rattle.std.specs.Str.{chars};
 ghost use Rattle.text.specs.Units.{JoinAdds, units, units_of_byte, units_of_chars};
 
-use crate::class::{ByteClass, class};
-
 fn units_of_byte(byte: u8) -> usize
     ensures value { result ≡ units_of_byte byte }
     ensures small { result ≤ 2 }
 {
-    match class(byte) {
-        ByteClass::Continuation => 0,
-        ByteClass::Digit
-        | ByteClass::NameStart
-        | ByteClass::Ascii
-        | ByteClass::Lead2
-        | ByteClass::Lead3 => 1,
-        ByteClass::Lead4 => 2,
-        // counted as the first byte of a sequence of two, or of four
-        ByteClass::Never => if byte < 0xF0 { 1 } else { 2 },
+    match byte {
+        0x00..=0x7F => 1,
+        // of a sequence, but not its first byte
+        0x80..=0xBF => 0,
+        // The first byte of a sequence of two or three, or of four. C0, C1 and F5 to FF, which begin none, count as these.
+        0xC0..=0xEF => 1,
+        0xF0..=0xFF => 2,
     }
 }
 

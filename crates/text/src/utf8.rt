@@ -3,12 +3,12 @@ ghost use Rattle.std.specs.Prelude.{◌≡◌, IsUtf8, Decides};
 ghost use Rattle.std.specs.Option.{option_map};
 ghost use Rattle.text.specs.Sequences.{after_sequence, is_continuation, is_second};
 
-use crate::class::{ByteClass, class};
+use crate::class::ByteClass;
 
 fn is_continuation(byte: u8) -> bool
     ensures { result ≡ is_continuation byte }
 {
-    matches!(class(byte), ByteClass::Continuation)
+    matches!(ByteClass::from(byte), ByteClass::Continuation)
 }
 
 fn is_second(lead: u8, byte: u8) -> bool
@@ -28,7 +28,7 @@ fn after_sequence(bytes: &[u8]) -> Option<&[u8]>
     ensures { option_map (λ rest. rest.now) result ≡ after_sequence bytes.now }
 {
     let (lead, rest) = bytes.split_first()?;
-    match (class(*lead), rest) {
+    match (ByteClass::from(*lead), rest) {
         (ByteClass::Digit | ByteClass::NameStart | ByteClass::Ascii, _) => Some(rest),
         (ByteClass::Lead2, [second, rest @ ..]) if is_second(*lead, *second) => Some(rest),
         (ByteClass::Lead3, [second, third, rest @ ..])
@@ -41,6 +41,7 @@ fn after_sequence(bytes: &[u8]) -> Option<&[u8]>
     }
 }
 
+// By the table of classes, which the digit host goes by too, and so not std's from_utf8.
 pub fn is_utf8(bytes: &[u8]) -> bool
     ensures { Decides result (IsUtf8 bytes.now) }
 {

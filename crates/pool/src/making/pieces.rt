@@ -16,12 +16,8 @@ impl Making<'_> {
         ensures { result ≡ row_of self.now.mark.now.rows self.now.start rows.now id.number }
     {
         let row = text_row(self.mark, rows, id)?;
-        // not a filter, which is as long, and whose closure the proof would have to unfold
-        if row.start as u64 + row.len as u64 <= self.start as u64 {
-            Some(row)
-        } else {
-            None
-        }
+        // not a filter, whose closure the proof would have to unfold
+        (row.end() <= self.start as usize).then_some(row)
     }
 
     // Adds a text of the pool; nothing is done where there is none, or where it does not fit.

@@ -3,7 +3,7 @@ use Rattle.std.proofs.Common.{◌≡◌, true, take}
 use Rattle.std.specs.List.{list_all}
 use Rattle.std.specs.Str.Parse.{digits_value}
 use Rattle.text.specs.Classes.{is_digit}
-use Rattle.host.proofs.digit_number.ShortNumber.of_digits.Given as goal
+use Rattle.host.proofs.digit_number.short_number.Given as goal
 
 abbrev pub invariant-loop-byte : goal.invariant-loop-byte
 invariant-loop-byte l = record {
