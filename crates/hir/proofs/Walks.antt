@@ -1,5 +1,5 @@
 -- The walk enters exactly the blocks that some path reaches, and lists as a block's predecessors exactly those reached that lead to it.
-use Rattle.std.proofs.Common.{◌≡◌, ℕ, zero, suc, ◌+◌, ◌<◌, ◌≤◌, Bool, true, false, cond, ◌⊎◌, List, [], ◌∷◌, ◌++◌, length, get_or, set, replicate, sym, refl, ap, ◌∙◌, subst, inl, inr, le_trans, le_refl, arith, length-set}
+use Rattle.std.proofs.Common.{◌≡◌, ℕ, zero, suc, ◌+◌, ◌<◌, ◌≤◌, Bool, true, false, cond, ◌⊎◌, List, [], ◌∷◌, ◌++◌, length, get_or, set, replicate, refl, ap, ◌∙◌, inl, inr, le_trans, le_refl, arith, length-set}
 use Rattle.hir.proofs.Members.{has-mem, mem_left, mem_right, mem_split}
 use Rattle.hir.specs.Accepted.{Precedes}
 use Rattle.hir.specs.Graph.{Graph, Path, Reached, Walk, along, each, enter, entry, noted, walk, walked}
@@ -85,9 +85,13 @@ module _ (n : ℕ) (g : Graph) (inside : (a b : ℕ) → Mem b (g a) → b < n) 
     noted' : (a b : ℕ) → Mem a (found w b) → Mem a (found w' b)
     more : trues w.entered ≤ trues w'.entered
 
-  -- all edges from a have been noted, and their ends entered
+  -- the edge from a to b has been noted, and b entered
+  abbrev Followed : Walk → ℕ → ℕ → Type 0
+  Followed w a b = Mem a (found w b) × Entered w b
+
+  -- so have been all edges from a
   abbrev Done : Walk → ℕ → Type 0
-  Done w a = (b : ℕ) → Mem b (g a) → Mem a (found w b) × Entered w b
+  Done w a = (b : ℕ) → Mem b (g a) → Followed w a b
 
   -- what was entered since w is done
   abbrev Since : Walk → Walk → Type 0
@@ -103,21 +107,15 @@ module _ (n : ℕ) (g : Graph) (inside : (a b : ℕ) → Mem b (g a) → b < n) 
     more = le_trans p.more q.more;
   }
 
-  done_later : (v w : Walk) → Grew v w → (a : ℕ) → Done v a → Done w a
-  done_later v w p a d b m = (p.noted' a b (d b m).0, p.entered b (d b m).1)
-
-  since_later : (u v w : Walk) → Grew v w → Since u v → Since v w → Since u w
-  since_later u v w p s t c e = elim (t c e) [ inl h ↦ elim (s c h) [ inl k ↦ inl k | inr k ↦ inr (done_later v w p c k) ] | inr h ↦ inr h ]
+  followed_later : (v w : Walk) → Grew v w → (a b : ℕ) → Followed v a b → Followed w a b
+  followed_later v w p a b f = (p.noted' a b f.0, p.entered b f.1)
 
   note_right : (a b : ℕ) (w : Walk) → Reached g a → Mem b (g a) → Right w → Right (noted a b w)
   note_right a b w ra m r = record {
     many = r.many;
     lists = mod_length (added a) b w.predecessors ∙ r.lists;
     reached = r.reached;
-    leads = λ x c k. elim (mod_only a b c x w.predecessors k) [
-      | inl h ↦ r.leads x c h
-      | inr h ↦ subst (λ (y : ℕ). Precedes g y c) (sym h.0) (ra, subst (λ (y : ℕ). Mem y (g a)) (sym h.1) m)
-    ];
+    leads = λ x c k. elim (mod_only a b c x w.predecessors k) [ inl h ↦ r.leads x c h | inr h ↦ rw (h.0, h.1) (ra, m) ];
   }
 
   note_grew : (a b : ℕ) (w : Walk) → Grew w (noted a b w)
@@ -127,7 +125,7 @@ module _ (n : ℕ) (g : Graph) (inside : (a b : ℕ) → Mem b (g a) → b < n) 
   enter_right b w rb r = record {
     many = length-set w.entered b true ∙ r.many;
     lists = r.lists;
-    reached = λ c e. elim (set_only w.entered b c e) [ inl h ↦ r.reached c h | inr h ↦ subst (Reached g) (sym h) rb ];
+    reached = λ c e. elim (set_only w.entered b c e) [ inl h ↦ r.reached c h | inr h ↦ rw h rb ];
     leads = r.leads;
   }
 
@@ -138,70 +136,68 @@ module _ (n : ℕ) (g : Graph) (inside : (a b : ℕ) → Mem b (g a) → b < n) 
 
   -- ---- the walk
 
-  -- what a walk on from a block that was just entered comes to
-  record Walked (a : ℕ) (w w' : Walk) : Type 0 where
+  -- what a walk comes to that has followed the edges from a to each of bs
+  record Walked (a : ℕ) (bs : List ℕ) (w w' : Walk) : Type 0 where
     right : Right w'
     grown : Grew w w'
     since : Since w w'
-    done : Done w' a
+    done : (b : ℕ) → Mem b bs → Followed w' a b
+
+  joined : (a b : ℕ) (bs : List ℕ) (u v w : Walk) → Walked a (b ∷ []) u v → Walked a bs v w → Walked a (b ∷ bs) u w
+  joined a b bs u v w p q = record {
+    right = q.right;
+    grown = grew u v w p.grown q.grown;
+    since = λ c e. elim (q.since c e) [
+      | inl h ↦ elim (p.since c h) [ inl k ↦ inl k | inr k ↦ inr (λ x m. followed_later v w q.grown c x (k x m)) ]
+      | inr h ↦ inr h
+    ];
+    done = λ c m. elim m [ inl e ↦ rw e (followed_later v w q.grown a b (p.done b (inl refl))) | inr k ↦ q.done c k ];
+  }
 
   abbrev Goes : (ℕ → Walk → Walk) → ℕ → Type 0
-  Goes go d = (a : ℕ) (w : Walk) → Right w → Reached g a → n < d + trues w.entered → Walked a w (go a w)
+  Goes go d = (a : ℕ) (w : Walk) → Right w → Reached g a → n < d + trues w.entered → Walked a (g a) w (go a w)
 
-  abbrev stepped : (ℕ → Walk → Walk) → ℕ → ℕ → Walk → Bool → Walk
-  stepped go a b w entered = cond entered (noted a b w) (go b (enter b (noted a b w)))
+  module _ (go : ℕ → Walk → Walk) (d : ℕ) (ok : Goes go d) (a : ℕ) (ra : Reached g a) where
+    abbrev stepped : ℕ → Walk → Bool → Walk
+    stepped b w entered = cond entered (noted a b w) (go b (enter b (noted a b w)))
 
-  edge_walked : (go : ℕ → Walk → Walk) (d : ℕ) → Goes go d → (a b : ℕ) → Reached g a → Mem b (g a) → (w : Walk) → Right w → n < suc d + trues w.entered
-      → (c : Bool) → get_or w.entered b false ≡ c
-      → Right (stepped go a b w c) × Grew w (stepped go a b w c) × Since w (stepped go a b w c) × Mem a (found (stepped go a b w c) b) × Entered (stepped go a b w c) b
-  edge_walked go d ok a b ra m w r f true e =
-      (note_right a b w ra m r, note_grew a b w, (λ c h. inl h), mod_has a b w.predecessors (rw r.lists (inside a b m)), e)
-  edge_walked go d ok a b ra m w r f false e =
-      let l : b < n = inside a b m in
-      let rb : Reached g b = (a ∷ ra.0, along ra.1 m) in
-      let next = noted a b w in
-      let r' = note_right a b w ra m r in
-      let ent = enter b next in
-      let t = set_trues w.entered b (rw r.many l) e in
-      let on = ok b ent (enter_right b next rb r') rb (omega arith) in
-      let up = grew w next ent (note_grew a b w) (enter_grew b next r' l e) in (
-        on.right,
-        grew w ent (go b ent) up on.grown,
-        (λ c h. elim (on.since c h) [
-          | inl k ↦ elim (set_only w.entered b c k) [ inl o ↦ inl o | inr o ↦ inr (subst (Done (go b ent)) (sym o) on.done) ]
-          | inr k ↦ inr k
-        ]),
-        on.grown.noted' a b (mod_has a b w.predecessors (rw r.lists l)),
-        on.grown.entered b (get_or-set_same w.entered b true false (rw r.many l)),
-      )
+    edge_walked : (b : ℕ) → Mem b (g a) → (w : Walk) → Right w → n < suc d + trues w.entered → (c : Bool) → get_or w.entered b false ≡ c → Walked a (b ∷ []) w (stepped b w c)
+    edge_walked b m w r f true e = record {
+      right = note_right a b w ra m r;
+      grown = note_grew a b w;
+      since = λ c h. inl h;
+      done = λ c k. elim k [ inl h ↦ rw h (mod_has a b w.predecessors (rw r.lists (inside a b m)), e) | inr h ↦ absurd h ];
+    }
+    edge_walked b m w r f false e =
+        let l : b < n = inside a b m in
+        let rb : Reached g b = (a ∷ ra.0, along ra.1 m) in
+        let next = noted a b w in
+        let r' = note_right a b w ra m r in
+        let ent = enter b next in
+        let t = set_trues w.entered b (rw r.many l) e in
+        let on = ok b ent (enter_right b next rb r') rb (omega arith) in
+        let at : Followed ent a b = (mod_has a b w.predecessors (rw r.lists l), get_or-set_same w.entered b true false (rw r.many l)) in
+        record {
+          right = on.right;
+          grown = grew w ent (go b ent) (grew w next ent (note_grew a b w) (enter_grew b next r' l e)) on.grown;
+          since = λ c h. elim (on.since c h) [
+            | inl k ↦ elim (set_only w.entered b c k) [ inl o ↦ inl o | inr o ↦ inr (rw o on.done) ]
+            | inr k ↦ inr k
+          ];
+          done = λ c k. elim k [ inl h ↦ rw h (followed_later ent (go b ent) on.grown a b at) | inr h ↦ absurd h ];
+        }
 
-  each_walked : (go : ℕ → Walk → Walk) (d : ℕ) → Goes go d → (a : ℕ) → Reached g a → (bs : List ℕ) → ((b : ℕ) → Mem b bs → Mem b (g a)) → (w : Walk) → Right w
-      → n < suc d + trues w.entered
-      → Right (each go a bs w) × Grew w (each go a bs w) × Since w (each go a bs w) × ((b : ℕ) → Mem b bs → Mem a (found (each go a bs w) b) × Entered (each go a bs w) b)
-  each_walked go d ok a ra [] sub w r f = (r, same w, (λ c e. inl e), (λ b m. absurd m))
-  each_walked go d ok a ra (b ∷ bs) sub w r f =
-      let v = stepped go a b w (get_or w.entered b false) in
-      let s = edge_walked go d ok a b ra (sub b (inl refl)) w r f (get_or w.entered b false) refl in
-      let m = s.1.more in
-      let t = each_walked go d ok a ra bs (λ c k. sub c (inr k)) v s.0 (omega arith) in
-      let z = each go a bs v in (
-        t.0,
-        grew w v z s.1 t.1,
-        since_later w v z t.1 s.2 t.2,
-        (λ c k. first c k t.1 s.3 s.4 t.3),
-      )
-    where
-      first : (c : ℕ) → Mem c (b ∷ bs) → Grew (stepped go a b w (get_or w.entered b false)) (each go a (b ∷ bs) w)
-          → Mem a (found (stepped go a b w (get_or w.entered b false)) b) → Entered (stepped go a b w (get_or w.entered b false)) b
-          → ((x : ℕ) → Mem x bs → Mem a (found (each go a (b ∷ bs) w) x) × Entered (each go a (b ∷ bs) w) x) → Mem a (found (each go a (b ∷ bs) w) c) × Entered (each go a (b ∷ bs) w) c
-      first c (inl e) p h k rest = subst (λ (x : ℕ). Mem a (found (each go a (b ∷ bs) w) x) × Entered (each go a (b ∷ bs) w) x) (sym e) (p.noted' a b h, p.entered b k)
-      first c (inr m) p h k rest = rest c m
+    each_walked : (bs : List ℕ) → ((b : ℕ) → Mem b bs → Mem b (g a)) → (w : Walk) → Right w → n < suc d + trues w.entered → Walked a bs w (each go a bs w)
+    each_walked [] sub w r f = record { right = r; grown = same w; since = λ c e. inl e; done = λ b m. absurd m }
+    each_walked (b ∷ bs) sub w r f =
+        let v = stepped b w (get_or w.entered b false) in
+        let s = edge_walked b (sub b (inl refl)) w r f (get_or w.entered b false) refl in
+        let m = s.grown.more in
+        joined a b bs w v (each go a bs v) s (each_walked bs (λ c k. sub c (inr k)) v s.right (omega arith))
 
-  walk_walked : (d a : ℕ) (w : Walk) → Right w → Reached g a → n < d + trues w.entered → Walked a w (walk g d a w)
+  walk_walked : (d a : ℕ) (w : Walk) → Right w → Reached g a → n < d + trues w.entered → Walked a (g a) w (walk g d a w)
   walk_walked zero a w r ra f = let t = count_by-le-length (λ b. b) w.entered in let l = r.many in absurd (omega arith)
-  walk_walked (suc d) a w r ra f =
-      let t = each_walked (walk g d) d (walk_walked d) a ra (g a) (λ b m. m) w r f in
-      record { right = t.0; grown = t.1; since = t.2; done = t.3 }
+  walk_walked (suc d) a w r ra f = each_walked (walk g d) d (walk_walked d) a ra (g a) (λ b m. m) w r f
 
   -- ---- all of it
 
@@ -218,7 +214,7 @@ module _ (n : ℕ) (g : Graph) (inside : (a b : ℕ) → Mem b (g a) → b < n) 
     unfolding blank
     begun = enter_right 0 blank ([], entry) (record { many = length-replicate n false; lists = length-replicate n []; reached = λ b e. absurd (both_ways _ (blank_reads n b false) e); leads = λ a b m. absurd (rw (blank_reads {A = List ℕ} n b []) at m) })
 
-    all_walked : Walked 0 (enter 0 blank) (walked n g)
+    all_walked : Walked 0 (g 0) (enter 0 blank) (walked n g)
     unfolding blank
     all_walked =
         let t = set_trues (replicate n false) 0 (rw (length-replicate n false) some) (blank_reads n 0 false) in
@@ -228,7 +224,7 @@ module _ (n : ℕ) (g : Graph) (inside : (a b : ℕ) → Mem b (g a) → b < n) 
     unfolding blank
     every_done c e =
         elim (all_walked.since c e) [
-          | inl h ↦ elim (set_only (replicate n false) 0 c h) [ inl k ↦ absurd (both_ways _ (blank_reads n c false) k) | inr k ↦ subst (Done (walked n g)) (sym k) all_walked.done ]
+          | inl h ↦ elim (set_only (replicate n false) 0 c h) [ inl k ↦ absurd (both_ways _ (blank_reads n c false) k) | inr k ↦ rw k all_walked.done ]
           | inr h ↦ h
         ]
 
