@@ -1,5 +1,8 @@
 -- Where the parts of a draft stand: each phi, instruction, terminal and end of each block is one of them.
-use Rattle.std.proofs.Common.{◌≡◌, ℕ, zero, suc, ◌+◌, ◌<◌, List, [], ◌∷◌, ◌++◌, length, get_or, Option, refl, ap, inl, inr, append_assoc, append-nil, add-zero, zero-add, arith}
+use Rattle.std.proofs.Common.{◌≡◌, ℕ, zero, suc, ◌+◌, ◌<◌, List, [], ◌∷◌, ◌++◌, length, get_or, Option, None, refl, ap, inl, inr, append_assoc, append-nil, add-zero, zero-add, arith}
+use Rattle.hir.specs.declared.block.BlockKind.TheVariants as kind
+use Rattle.std.proofs.lemmas.Bool.{cases_lt}
+use Rattle.std.proofs.lemmas.List.{get_or_past}
 use Rattle.hir.proofs.Members.{mem_left, mem_right}
 use Rattle.hir.specs.Lists.{Mem, numbered}
 use Rattle.hir.specs.Script.{Block, Instruction, Phi, Script, Terminal}
@@ -65,3 +68,8 @@ stands s b l =
     let rest = block_parts 0 0 0 s.blocks in
     let st : Stands (0 + b) (draft_block s b) rest = block_stands 0 0 0 b s.blocks l _ in
     stands_in b (draft_block s b) rest (parts s) (λ q m. mem_right q (numbered parameter 0 s.parameters) rest m) (rw (zero-add b) at st)
+
+-- where a block has something that the blank one past the last lacks, it is one of the draft's
+pub inhabited : {A : Type 0} (s : Script) (b : ℕ) (f : Block (Option Terminal) → List A) (x : A)
+    → f (record { kind = kind.Block; phis = []; code = []; terminal = None }) ≡ [] → Mem x (f (draft_block s b)) → b < length s.blocks
+inhabited s b f x none m = elim (cases_lt b (length s.blocks)) [ inl l ↦ l | inr l ↦ absurd (rw none at (rw (get_or_past s.blocks b _ l) at m)) ]
