@@ -4,7 +4,7 @@ use Rattle.hir.specs.Script.{Script}
 use Rattle.hir.specs.Seal.{First, FirstCause, Free, Part, causes, parts, site_of}
 use Rattle.std.specs.List.{AllByRecursion}
 use Rattle.table.specs.declared.refusal.Cause.{Cause}
-use Rattle.table.specs.declared.refusal.Cause.TheVariants.{TableFull, NotUtf8, TextDoesNotFit, NamesNothing, KindNotTaken, NoTerminal, AssignedTwice, PhiOperands, EdgeBack, UseBeforeDefinition}
+use Rattle.table.specs.declared.refusal.Cause.TheVariants.{TableFull}
 use Rattle.table.specs.declared.refusal.Layer.{Layer}
 use Rattle.table.specs.declared.refusal.Refusal.{Refusal}
 use Rattle.table.specs.declared.refusal.Site.{Site}
@@ -17,15 +17,7 @@ cause_at n = get_or causes (n - 1) TableFull
 cause_at-number : (c : Cause) → cause_at (number_of c) ≡ c
 unfolding cause_at
 cause_at-number TableFull = refl
-cause_at-number NotUtf8 = refl
-cause_at-number TextDoesNotFit = refl
-cause_at-number NamesNothing = refl
-cause_at-number KindNotTaken = refl
-cause_at-number NoTerminal = refl
-cause_at-number AssignedTwice = refl
-cause_at-number PhiOperands = refl
-cause_at-number EdgeBack = refl
-cause_at-number UseBeforeDefinition = refl
+cause_at-number c = refl
 
 same_cause : (a b : Cause) → number_of a ≡ number_of b → a ≡ b
 same_cause a b e = sym (cause_at-number a) ∙ ap cause_at e ∙ cause_at-number b
