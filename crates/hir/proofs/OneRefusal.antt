@@ -1,5 +1,6 @@
 -- A draft is refused for one reason at the most, and none that is accepted is refused.
 use Rattle.std.proofs.Common.{◌≡◌, ℕ, ◌-◌, List, [], ◌∷◌, get_or, sym, refl, ap, ◌∙◌, inl, inr}
+use Rattle.hir.specs.Examples.{OneRefusal}
 use Rattle.hir.specs.Script.{Script}
 use Rattle.hir.specs.Seal.{First, FirstCause, Free, Part, causes, parts, site_of}
 use Rattle.std.specs.List.{AllByRecursion}
@@ -41,14 +42,17 @@ free_first room s c e [] r f g = g
 free_first room s c e (p ∷ ps) r f (inl g) = f.0 g.0
 free_first room s c e (p ∷ ps) r f (inr g) = free_first room s c (p ∷ e) ps r f.1 g.1
 
-pub cause_one : (room : ℕ) (s : Script) (cs : List Cause) (r q : Refusal) → FirstCause room s cs r → FirstCause room s cs q → r ≡ q
+cause_one : (room : ℕ) (s : Script) (cs : List Cause) (r q : Refusal) → FirstCause room s cs r → FirstCause room s cs q → r ≡ q
 cause_one room s [] r q f g = absurd f
 cause_one room s (c ∷ cs) r q (inl f) (inl g) = first_one room s c [] (parts s) r q f g
 cause_one room s (c ∷ cs) r q (inl f) (inr g) = absurd (free_first room s c [] (parts s) r g.0 f)
 cause_one room s (c ∷ cs) r q (inr f) (inl g) = absurd (free_first room s c [] (parts s) q f.0 g)
 cause_one room s (c ∷ cs) r q (inr f) (inr g) = cause_one room s cs r q f.1 g.1
 
-pub free_cause : (room : ℕ) (s : Script) (cs : List Cause) (r : Refusal) → AllByRecursion (λ c. Free room s c [] (parts s)) cs → FirstCause room s cs r → ⊥
+free_cause : (room : ℕ) (s : Script) (cs : List Cause) (r : Refusal) → AllByRecursion (λ c. Free room s c [] (parts s)) cs → FirstCause room s cs r → ⊥
 free_cause room s [] r a f = f
 free_cause room s (c ∷ cs) r a (inl f) = free_first room s c [] (parts s) r a.0 f
 free_cause room s (c ∷ cs) r a (inr f) = free_cause room s cs r a.1 f.1
+
+pub one_refusal : OneRefusal
+one_refusal = record { one = λ room s r q f g. cause_one room s causes r q f g; none_accepted = λ room s r a f. free_cause room s causes r a f }
