@@ -1,7 +1,7 @@
 -- What it says of a script that the seal accepts it.
 use Rattle.std.proofs.Common.{◌≡◌, ℕ, ◌<◌, Bool, true, false, eqb, leb, List, [], ◌∷◌, map, length, get_or, Some, None, Option, sym, refl, subst, inl, inr, arith}
 use Rattle.hir.proofs.AssignedOnce.{assigned_once}
-use Rattle.hir.proofs.Members.{all_mem, has-mem, mem-flat, mem_left, mem_right, member}
+use Rattle.hir.proofs.Members.{all_has, mem-flat, mem_left, mem_right, member}
 use Rattle.hir.proofs.Standing.{free_at, inhabited, stands}
 use Rattle.hir.proofs.Walks.{Entered, found_precedes, precedes_found, reached_entered}
 use Rattle.hir.specs.Accepted.{Accepted, Forward, TakesEach}
@@ -9,10 +9,11 @@ use Rattle.hir.specs.Graph.{Graph, Path, Reached, along, entry}
 use Rattle.hir.specs.Lists.{Mem, all, any, distinct, flat_map, has, numbered}
 use Rattle.hir.specs.Places.{reads}
 use Rattle.hir.specs.Script.{Phi, Script, Terminal}
-use Rattle.hir.specs.Seal.{SealAccepts, Unassigned, asks, assigned_along, assigned_before, block_parts, draft_block, draft_graph, draft_walk, further, leads, names, parameter, parts, taken_from, takes_from, terminal}
+use Rattle.hir.specs.Seal.{Fault, Free, Part, SealAccepts, lacks_terminal, Unassigned, asks, assigned_along, assigned_before, block_parts, draft_block, draft_graph, draft_walk, further, leads, names, parameter, parts, taken_from, takes_from, terminal}
 use Rattle.std.proofs.lemmas.List.{nil_from_length}
 use Rattle.std.proofs.lemmas.Bool.{and_parts, cases_lt, cases_order, false_from_ne_true, leb-false, not-false, or_parts, true≢false}
-use Rattle.table.specs.declared.refusal.Cause.TheVariants.{EdgeBack, NamesNothing, NoTerminal, PhiOperands, UseBeforeDefinition}
+use Rattle.table.specs.declared.refusal.Cause.{Cause}
+use Rattle.table.specs.declared.refusal.Cause.TheVariants.{AssignedTwice, TableFull, EdgeBack, NamesNothing, NoTerminal, PhiOperands, UseBeforeDefinition}
 
 -- ---- blocks by their numbers
 
@@ -56,6 +57,14 @@ module _ (room : ℕ) (s : Script) (ok : SealAccepts room s) where
   abbrev g : Graph
   g = draft_graph s
 
+  free : (c : Cause) → Free room s c [] (parts s)
+  free TableFull = search ok
+  free c = search ok
+
+  -- no cause applies at a part
+  never : (c : Cause) (p : Part) → Mem p (parts s) → (earlier : List Part) × (Fault room s c p earlier → ⊥)
+  never c p m = free_at room s c [] (parts s) (free c) p m
+
   has_entry : 0 < length s.blocks
   has_entry =
       elim (cases_lt 0 (length s.blocks)) [
@@ -63,19 +72,19 @@ module _ (room : ℕ) (s : Script) (ok : SealAccepts room s) where
         | inr l ↦ (
             let none : s.blocks ≡ [] = nil_from_length s.blocks (omega arith) in
             let m = mem_right (further 0) (numbered parameter 0 s.parameters) (block_parts 0 0 0 s.blocks) (rw none (inl refl)) in
-            absurd ((free_at room s NoTerminal [] (parts s) ok.1.1.1.1.1.0 (further 0) m).1 refl))
+            absurd ((never NoTerminal (further 0) m).1 refl))
       ]
 
   has_terminal : (b : ℕ) → b < length s.blocks → (t : Terminal) × ((draft_block s b).terminal ≡ Some t)
-  has_terminal b l = by (draft_block s b).terminal refl
+  has_terminal b l = by (draft_block s b).terminal (never NoTerminal _ (stands s b l).2).1
     where
-      by : (o : Option Terminal) → (draft_block s b).terminal ≡ o → (t : Terminal) × (o ≡ Some t)
-      by None e = absurd ((free_at room s NoTerminal [] (parts s) ok.1.1.1.1.1.0 (terminal b None) (rw e at (stands s b l).2)).1 refl)
-      by (Some t) e = (t, refl)
+      by : (o : Option Terminal) → (lacks_terminal (terminal b o) ≡ true → ⊥) → (t : Terminal) × (o ≡ Some t)
+      by None f = absurd (f refl)
+      by (Some t) f = (t, refl)
 
   inside : (a b : ℕ) → Mem b (g a) → b < length s.blocks
   inside a b m =
-      let f = free_at room s NamesNothing [] (parts s) ok.1.1.1.0 (terminal a (draft_block s a).terminal) (stands s a (edge_inside s a b m)).2 in
+      let f = never NamesNothing (terminal a (draft_block s a).terminal) (stands s a (edge_inside s a b m)).2 in
       let named = leads_named (draft_block s a).terminal b m in
       leb-false (length s.blocks) b (any_not (λ c. leb (length s.blocks) c) b _ (false_from_ne_true _ f.1) named)
 
@@ -87,7 +96,7 @@ module _ (room : ℕ) (s : Script) (ok : SealAccepts room s) where
       → (eqb b 0 ≡ false) × (takes_from (get_or (draft_walk s).predecessors b []) φ ≡ true)
   phi_fits b r φ m =
       let at = (stands s b (inhabited s b (λ B. B.phis) φ refl m)).0 φ m in
-      let f = free_at room s PhiOperands [] (parts s) ok.1.1.1.1.1.1.1.0 _ at.1 in
+      let f = never PhiOperands _ at.1 in
       let o = or_parts _ _ (rw (entered b r) at (false_from_ne_true _ f.1)) in
       (o.0, not-false _ o.1)
 
@@ -106,8 +115,8 @@ module _ (room : ℕ) (s : Script) (ok : SealAccepts room s) where
       let h = and_parts (all (λ a. has a preds) from) (all (λ a. has a from) preds) f.1 in
       record {
         once = f.0;
-        only = λ a k. found_precedes (length s.blocks) g inside has_entry a b (has-mem a preds (all_mem (λ c. has c preds) a from h.0 k));
-        each = λ a p. has-mem a from (all_mem (λ c. has c from) a preds h.1 (precedes_found (length s.blocks) g inside has_entry a b p));
+        only = λ a k. found_precedes (length s.blocks) g inside has_entry a b (all_has a from preds h.0 k);
+        each = λ a p. all_has a preds from h.1 (precedes_found (length s.blocks) g inside has_entry a b p);
       }
 
   -- ---- uses
@@ -117,28 +126,27 @@ module _ (room : ℕ) (s : Script) (ok : SealAccepts room s) where
 
   returns_to : (b : ℕ) (h : List ℕ) → Path g (b ∷ h) → (c : ℕ) → Mem c (g b) → c < b → Mem c (b ∷ h)
   returns_to b h w c m l =
-      let f = free_at room s EdgeBack [] (parts s) ok.1.1.1.1.1.1.1.1.0 (terminal b (draft_block s b).terminal) (stands s b (edge_inside s b c m)).2 in
+      let f = never EdgeBack (terminal b (draft_block s b).terminal) (stands s b (edge_inside s b c m)).2 in
       elim (member c (b ∷ h)) [ inl k ↦ k | inr k ↦ absurd (f.1 (h, w, (c, l, m, k))) ]
 
   pub accepted : Accepted s
   accepted =
-      let uses = ok.1.1.1.1.1.1.1.1.1.0 in
       record {
         entry = has_entry;
         ended = has_terminal;
         within = inside;
-        assigned_once = assigned_once room s ok.1.1.1.1.1.1.0;
+        assigned_once = assigned_once room s (free AssignedTwice);
         no_entry_phi = entry_clean;
         phis = takes_each;
         code_used = λ b h w before i after e x m.
             (let at = (stands s b (inhabited s b (λ B. B.code) i refl (rw e (mem_right i before (i ∷ after) (inl refl))))).1 before i after e in
-            assigned b (reads i) (assigned_before s b before) (free_at room s UseBeforeDefinition [] (parts s) uses _ at.1).1 h w x m);
+            assigned b (reads i) (assigned_before s b before) (never UseBeforeDefinition _ at.1).1 h w x m);
         terminal_used = λ b h w x m.
             assigned b (asks (draft_block s b).terminal) (assigned_before s b (draft_block s b).code)
-            (free_at room s UseBeforeDefinition [] (parts s) uses _ (stands s b (inhabited s b (λ B. asks B.terminal) x refl m)).2).1 h w x m;
+            (never UseBeforeDefinition _ (stands s b (inhabited s b (λ B. asks B.terminal) x refl m)).2).1 h w x m;
         end_used = λ a h w b e x m.
             assigned a (flat_map (λ c. taken_from a (draft_block s c)) (g a)) (λ k. assigned_along s (a ∷ k))
-            (free_at room s UseBeforeDefinition [] (parts s) uses _ (stands s a (edge_inside s a b e)).3).1 h w x (mem-flat (λ c. taken_from a (draft_block s c)) b x (g a) e m);
+            (never UseBeforeDefinition _ (stands s a (edge_inside s a b e)).3).1 h w x (mem-flat (λ c. taken_from a (draft_block s c)) b x (g a) e m);
         back = returns_to;
         forward = λ b r. goes_forward g returns_to b r.0 r.1;
       }

@@ -1,6 +1,6 @@
 -- A draft is accepted, or refused at a part, where lists of what every path brings are checked edge by edge.
 use Rattle.std.proofs.Common.{◌≡◌, ℕ, Bool, true, false, not, ◌&&◌, ◌||◌, eqb, ltb, leb, List, [], ◌∷◌, ◌++◌, map, length, get_or, refl, inl, inr, arith}
-use Rattle.hir.proofs.Members.{all_mem, has-mem, mem_left, mem_right}
+use Rattle.hir.proofs.Members.{all_has, all_mem, has-mem, mem_left, mem_right}
 use Rattle.hir.proofs.Standing.{inhabited}
 use Rattle.hir.specs.Examples.{refusal}
 use Rattle.hir.specs.Graph.{Path, along, entry}
@@ -51,7 +51,7 @@ module _ (k : Certificate) (s : Script) (ok : linked k s ≡ true) where
 
   -- what the certificate says to be assigned before the last block of a path is assigned along what leads to it
   assigned_on_lem : (b : ℕ) (h : List ℕ) → Path (draft_graph s) (b ∷ h) → (x : ℕ) → Mem x (assigned_at k b) → Mem x (assigned_along s h)
-  assigned_on_lem b h (entry) x m = has-mem x s.parameters (all_mem _ x (assigned_at k 0) (and_parts _ _ (and_parts _ _ ok).0).0 m)
+  assigned_on_lem b h (entry) x m = all_has x (assigned_at k 0) s.parameters (and_parts _ _ (and_parts _ _ ok).0).0 m
   assigned_on_lem b h (along {a = a} {b = c} {h = g} w e) x m =
       brought a g (assigned_in (draft_block s a)) x (assigned_on_lem a g w x) (all_mem _ x (assigned_at k b) (edge_linked a b e).0 m)
 

@@ -25,6 +25,9 @@ all_mem p x [] e m = absurd m
 all_mem p x (y ∷ ys) e (inl h) = rw h (and_parts _ _ e).0
 all_mem p x (y ∷ ys) e (inr h) = all_mem p x ys (and_parts _ _ e).1 h
 
+pub all_has : (x : ℕ) (xs ys : List ℕ) → all (λ c. has c ys) xs ≡ true → Mem x xs → Mem x ys
+all_has x xs ys e m = has-mem x ys (all_mem (λ c. has c ys) x xs e m)
+
 -- ---- lists joined and mapped
 
 pub mem_right : {A : Type 0} (x : A) (xs ys : List A) → Mem x ys → Mem x (xs ++ ys)
