@@ -12,11 +12,10 @@ use Rattle.table.specs.declared.refusal.Site.{Site}
 use Rattle.table.specs.Refusals.{Refuses, number_of}
 
 -- a cause by its row
-cause_at : ℕ → Cause
+abbrev pub cause_at : ℕ → Cause
 cause_at n = get_or causes (n - 1) TableFull
 
 cause_at-number : (c : Cause) → cause_at (number_of c) ≡ c
-unfolding cause_at
 cause_at-number TableFull = refl
 cause_at-number c = refl
 
