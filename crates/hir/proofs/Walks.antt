@@ -2,7 +2,7 @@
 use Rattle.std.proofs.Common.{◌≡◌, ℕ, zero, suc, ◌+◌, ◌<◌, ◌≤◌, Bool, true, false, cond, ◌⊎◌, List, [], ◌∷◌, ◌++◌, length, get_or, set, replicate, refl, ap, ◌∙◌, inl, inr, le_trans, le_refl, arith, length-set}
 use Rattle.hir.proofs.Members.{has-mem, mem_left, mem_right, mem_split}
 use Rattle.hir.specs.Accepted.{Precedes}
-use Rattle.hir.specs.Graph.{Graph, Path, Reached, Walk, along, each, enter, entry, noted, walk, walked}
+use Rattle.hir.specs.Graph.{Graph, Reached, Walk, along, each, enter, entry, noted, walk, walked}
 use Rattle.hir.specs.Lists.{Mem, has, mod_at}
 use Rattle.std.proofs.lemmas.Bool.{both_ways, cases_eq, cond_both}
 use Rattle.std.proofs.lemmas.List.{get_or-set_other, get_or-set_same, length-replicate}
@@ -37,31 +37,22 @@ set_trues bs b l e = let set = rw e at (sum_by-set (λ (x : Bool). cond {A = ℕ
 abbrev added : ℕ → List ℕ → List ℕ
 added a xs = cond (has a xs) xs (xs ++ a ∷ [])
 
-added_has : (a : ℕ) (xs : List ℕ) → Mem a (added a xs)
-added_has a xs = cond_both (has a xs) xs (xs ++ a ∷ []) (Mem a) (has-mem a xs) (λ e. mem_right a xs (a ∷ []) (inl refl))
-
-added_keeps : (a x : ℕ) (xs : List ℕ) → Mem x xs → Mem x (added a xs)
-added_keeps a x xs m = cond_both (has a xs) xs (xs ++ a ∷ []) (Mem x) (λ e. m) (λ e. mem_left x xs (a ∷ []) m)
-
-added_only : (a x : ℕ) (xs : List ℕ) → Mem x (added a xs) → Mem x xs ⊎ (x ≡ a)
-added_only a x xs =
-    cond_both (has a xs) xs (xs ++ a ∷ []) (λ ys. Mem x ys → Mem x xs ⊎ (x ≡ a)) (λ e m. inl m)
-    (λ e m. elim (mem_split x xs (a ∷ []) m) [ inl h ↦ inl h | inr (inl h) ↦ inr h | inr (inr h) ↦ absurd h ])
-
 mod_has : (a b : ℕ) (ps : List (List ℕ)) → b < length ps → Mem a (get_or (mod_at (added a) b ps) b [])
 mod_has a b [] l = absurd (omega arith)
-mod_has a zero (p ∷ ps) l = added_has a p
+mod_has a zero (p ∷ ps) l = cond_both (has a p) p (p ++ a ∷ []) (Mem a) (has-mem a p) (λ e. mem_right a p (a ∷ []) (inl refl))
 mod_has a (suc b) (p ∷ ps) l = mod_has a b ps (omega arith)
 
 mod_keeps : (a b c x : ℕ) (ps : List (List ℕ)) → Mem x (get_or ps c []) → Mem x (get_or (mod_at (added a) b ps) c [])
 mod_keeps a b c x [] m = m
-mod_keeps a zero zero x (p ∷ ps) m = added_keeps a x p m
+mod_keeps a zero zero x (p ∷ ps) m = cond_both (has a p) p (p ++ a ∷ []) (Mem x) (λ e. m) (λ e. mem_left x p (a ∷ []) m)
 mod_keeps a (suc b) (suc c) x (p ∷ ps) m = mod_keeps a b c x ps m
 mod_keeps a b c x ps m = m
 
 mod_only : (a b c x : ℕ) (ps : List (List ℕ)) → Mem x (get_or (mod_at (added a) b ps) c []) → Mem x (get_or ps c []) ⊎ ((x ≡ a) × (c ≡ b))
 mod_only a b c x [] m = inl m
-mod_only a zero zero x (p ∷ ps) m = elim (added_only a x p m) [ inl h ↦ inl h | inr h ↦ inr (h, refl) ]
+mod_only a zero zero x (p ∷ ps) m =
+    cond_both (has a p) p (p ++ a ∷ []) (λ ys. Mem x ys → Mem x p ⊎ ((x ≡ a) × (zero ≡ zero))) (λ e k. inl k)
+    (λ e k. elim (mem_split x p (a ∷ []) k) [ inl h ↦ inl h | inr (inl h) ↦ inr (h, refl) | inr (inr h) ↦ absurd h ]) m
 mod_only a (suc b) (suc c) x (p ∷ ps) m = elim (mod_only a b c x ps m) [ inl h ↦ inl h | inr h ↦ inr (h.0, ap suc h.1) ]
 mod_only a b c x ps m = inl m
 
@@ -228,13 +219,10 @@ module _ (n : ℕ) (g : Graph) (inside : (a b : ℕ) → Mem b (g a) → b < n) 
           | inr h ↦ h
         ]
 
-    path_entered : (b : ℕ) (h : List ℕ) → Path g (b ∷ h) → Entered (walked n g) b
-    unfolding blank
-    path_entered b h entry = all_walked.grown.entered 0 (get_or-set_same (replicate n false) 0 true false (rw (length-replicate n false) some))
-    path_entered b h (along {a = a} {b = c} {h = k} w m) = (every_done a (path_entered a k w) b m).1
-
     pub reached_entered : (b : ℕ) → Reached g b → Entered (walked n g) b
-    reached_entered b r = path_entered b r.0 r.1
+    unfolding blank
+    reached_entered b (h, entry) = all_walked.grown.entered 0 (get_or-set_same (replicate n false) 0 true false (rw (length-replicate n false) some))
+    reached_entered b (h, along {a = a} {b = c} {h = k} w m) = (every_done a (reached_entered a (k, w)) b m).1
 
     pub found_precedes : (a b : ℕ) → Mem a (found (walked n g) b) → Precedes g a b
     found_precedes a b m = all_walked.right.leads a b m
