@@ -7,7 +7,7 @@ use Rattle.hir.specs.Graph.{Path, along, entry}
 use Rattle.hir.specs.Lists.{Mem, all, any, distinct, flat_map, has, total}
 use Rattle.hir.specs.Places.{reads, writes}
 use Rattle.hir.specs.Script.{Instruction, Script}
-use Rattle.hir.specs.Seal.{EdgeFault, Fault, First, FirstCause, Free, Part, PhiFault, SealAccepts, Unassigned, UseFault, asks, assigned_along, assigned_by, assigned_in, blocks_of, causes, draft_block, draft_graph, draft_walk, lacks_terminal, leads, parts, site_of, successors_of, taken_from, takes_from}
+use Rattle.hir.specs.Seal.{Fault, First, FirstCause, Free, Part, SealAccepts, Unassigned, asks, assigned_along, assigned_by, assigned_in, blocks_of, causes, draft_block, draft_graph, draft_walk, lacks_terminal, leads, parts, site_of, successors_of, taken_from, takes_from}
 use Rattle.hir.specs.Seal.{phi, instruction, terminal, end}
 use Rattle.std.proofs.lemmas.Bool.{agree_below, agree_below_at, and_parts, both_ways, eqb-true, leb-true, not-true, or_cases}
 use Rattle.std.specs.List.{AllByRecursion}
@@ -65,31 +65,20 @@ module _ (k : Certificate) (s : Script) (ok : linked k s ≡ true) where
 
 -- ---- a test for each cause at each part, which passes where there is no fault
 
-abbrev phi_test : Script → Part → Bool
-phi_test s (phi b n φ) = not (get_or (draft_walk s).entered b false && (eqb b 0 || not (takes_from (get_or (draft_walk s).predecessors b []) φ)))
-phi_test s p = true
-
-abbrev edge_test : Certificate → Part → Bool
-edge_test k (terminal b t) = all (λ c. leb b c || has c (held_at k b)) (leads t)
-edge_test k p = true
-
 abbrev done_before : Script → ℕ → List Instruction → List ℕ
 done_before s b before = map (λ φ. φ.place) (draft_block s b).phis ++ flat_map writes before
-
-abbrev use_test : Certificate → Script → Part → Bool
-use_test k s (instruction b n before i) = all (brings k b (done_before s b before)) (reads i)
-use_test k s (terminal b t) = all (brings k b (done_before s b (draft_block s b).code)) (asks t)
-use_test k s (end b) = all (brings k b (assigned_in (draft_block s b))) (flat_map (λ c. taken_from b (draft_block s c)) (draft_graph s b))
-use_test k s p = true
 
 abbrev pub tested : ℕ → Certificate → Script → Cause → Part → List Part → Bool
 tested room k s TableFull p earlier = not (ltb room (total (λ q. length (successors_of q)) (p ∷ earlier)))
 tested room k s NamesNothing p earlier = not (any (λ b. leb (length s.blocks) b) (blocks_of p))
 tested room k s NoTerminal p earlier = not (lacks_terminal p)
 tested room k s AssignedTwice p earlier = distinct (flat_map assigned_by (p ∷ earlier))
-tested room k s PhiOperands p earlier = phi_test s p
-tested room k s EdgeBack p earlier = edge_test k p
-tested room k s UseBeforeDefinition p earlier = use_test k s p
+tested room k s PhiOperands (phi b n φ) earlier =
+    not (get_or (draft_walk s).entered b false && (eqb b 0 || not (takes_from (get_or (draft_walk s).predecessors b []) φ)))
+tested room k s EdgeBack (terminal b t) earlier = all (λ c. leb b c || has c (held_at k b)) (leads t)
+tested room k s UseBeforeDefinition (instruction b n before i) earlier = all (brings k b (done_before s b before)) (reads i)
+tested room k s UseBeforeDefinition (terminal b t) earlier = all (brings k b (done_before s b (draft_block s b).code)) (asks t)
+tested room k s UseBeforeDefinition (end b) earlier = all (brings k b (assigned_in (draft_block s b))) (flat_map (λ c. taken_from b (draft_block s c)) (draft_graph s b))
 tested room k s c p earlier = true
 
 abbrev pub tested_all : ℕ → Certificate → Script → Cause → (earlier ps : List Part) → Bool
@@ -109,32 +98,20 @@ module _ (room : ℕ) (k : Certificate) (s : Script) (ok : linked k s ≡ true) 
   uses_sound : (b : ℕ) (done xs : List ℕ) → all (brings k b done) xs ≡ true → Unassigned s b xs (λ h. done ++ assigned_along s h) → ⊥
   uses_sound b done xs e (h, w, (x, m, not_in)) = not_in (brought k s ok b h done x (assigned_on_lem k s ok b h w x) (all_mem _ x xs e m))
 
-  phi_sound : (p : Part) → phi_test s p ≡ true → PhiFault s p → ⊥
-  phi_sound (phi b n φ) e f = both_ways _ (not-true _ e) f
-  phi_sound p e f = f
-
-  edge_sound : (p : Part) → edge_test k p ≡ true → EdgeFault s p → ⊥
-  edge_sound (terminal b t) e (h, w, (c, l, m, not_in)) =
-      elim (or_cases _ _ (all_mem (λ d. leb b d || has d (held_at k b)) c (leads t) e m)) [
-        | inl t ↦ (let u = leb-true b c t in absurd (omega arith))
-        | inr t ↦ not_in (held_on k s ok b h w c (has-mem c (held_at k b) t))
-      ]
-  edge_sound p e f = f
-
-  use_sound : (p : Part) → use_test k s p ≡ true → UseFault s p → ⊥
-  use_sound (instruction b n before i) e f = uses_sound b (done_before s b before) (reads i) e f
-  use_sound (terminal b t) e f = uses_sound b (done_before s b (draft_block s b).code) (asks t) e f
-  use_sound (end b) e f = uses_sound b (assigned_in (draft_block s b)) _ e f
-  use_sound p e f = f
-
   sound : (c : Cause) (p : Part) (earlier : List Part) → tested room k s c p earlier ≡ true → Fault room s c p earlier → ⊥
   sound TableFull p earlier e f = both_ways _ (not-true _ e) f
   sound NamesNothing p earlier e f = both_ways _ (not-true _ e) f
   sound NoTerminal p earlier e f = both_ways _ (not-true _ e) f
   sound AssignedTwice p earlier e f = both_ways _ f e
-  sound PhiOperands p earlier e f = phi_sound p e f
-  sound EdgeBack p earlier e f = edge_sound p e f
-  sound UseBeforeDefinition p earlier e f = use_sound p e f
+  sound PhiOperands (phi b n φ) earlier e f = both_ways _ (not-true _ e) f
+  sound EdgeBack (terminal b t) earlier e (h, w, (c, l, m, not_in)) =
+      elim (or_cases _ _ (all_mem (λ d. leb b d || has d (held_at k b)) c (leads t) e m)) [
+        | inl t ↦ (let u = leb-true b c t in absurd (omega arith))
+        | inr t ↦ not_in (held_on k s ok b h w c (has-mem c (held_at k b) t))
+      ]
+  sound UseBeforeDefinition (instruction b n before i) earlier e f = uses_sound b (done_before s b before) (reads i) e f
+  sound UseBeforeDefinition (terminal b t) earlier e f = uses_sound b (done_before s b (draft_block s b).code) (asks t) e f
+  sound UseBeforeDefinition (end b) earlier e f = uses_sound b (assigned_in (draft_block s b)) _ e f
   sound c p earlier e f = f
 
   -- ---- all parts, all causes
