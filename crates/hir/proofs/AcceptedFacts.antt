@@ -6,10 +6,9 @@ use Rattle.hir.proofs.Standing.{free_at, inhabited, stands}
 use Rattle.hir.proofs.Walks.{Entered, found_precedes, precedes_found, reached_entered}
 use Rattle.hir.specs.Accepted.{Accepted, Forward, TakesEach}
 use Rattle.hir.specs.Graph.{Graph, Path, Reached, along, entry}
-use Rattle.hir.specs.Lists.{Mem, all, any, distinct, flat_map, has, numbered}
-use Rattle.hir.specs.Places.{reads}
+use Rattle.hir.specs.Lists.{Mem, all, any, distinct, has, numbered}
 use Rattle.hir.specs.Script.{Phi, Script, Terminal}
-use Rattle.hir.specs.Seal.{Fault, Free, Part, SealAccepts, lacks_terminal, Unassigned, asks, assigned_along, assigned_before, block_parts, draft_block, draft_graph, draft_walk, further, leads, names, parameter, parts, taken_from, takes_from, terminal}
+use Rattle.hir.specs.Seal.{Fault, Free, Part, SealAccepts, lacks_terminal, Unassigned, asks, block_parts, draft_block, draft_graph, draft_walk, further, leads, names, parameter, parts, takes_from, terminal}
 use Rattle.std.proofs.lemmas.List.{nil_from_length}
 use Rattle.std.proofs.lemmas.Bool.{and_parts, cases_lt, cases_order, false_from_ne_true, leb-false, not-false, or_parts, true≢false}
 use Rattle.table.specs.declared.refusal.Cause.{Cause}
@@ -140,13 +139,11 @@ module _ (room : ℕ) (s : Script) (ok : SealAccepts room s) where
         phis = takes_each;
         code_used = λ b h w before i after e x m.
             (let at = (stands s b (inhabited s b (λ B. B.code) i refl (rw e (mem_right i before (i ∷ after) (inl refl))))).1 before i after e in
-            assigned b (reads i) (assigned_before s b before) (never UseBeforeDefinition _ at.1).1 h w x m);
+            assigned b _ _ (never UseBeforeDefinition _ at.1).1 h w x m);
         terminal_used = λ b h w x m.
-            assigned b (asks (draft_block s b).terminal) (assigned_before s b (draft_block s b).code)
-            (never UseBeforeDefinition _ (stands s b (inhabited s b (λ B. asks B.terminal) x refl m)).2).1 h w x m;
+            assigned b _ _ (never UseBeforeDefinition _ (stands s b (inhabited s b (λ B. asks B.terminal) x refl m)).2).1 h w x m;
         end_used = λ a h w b e x m.
-            assigned a (flat_map (λ c. taken_from a (draft_block s c)) (g a)) (λ k. assigned_along s (a ∷ k))
-            (never UseBeforeDefinition _ (stands s a (edge_inside s a b e)).3).1 h w x (mem-flat (λ c. taken_from a (draft_block s c)) b x (g a) e m);
+            assigned a _ _ (never UseBeforeDefinition _ (stands s a (edge_inside s a b e)).3).1 h w x (mem-flat _ b x (g a) e m);
         back = returns_to;
         forward = λ b r. goes_forward g returns_to b r.0 r.1;
       }

@@ -1,5 +1,5 @@
 -- A draft is refused for one reason at the most, and none that is accepted is refused.
-use Rattle.std.proofs.Common.{◌≡◌, ℕ, ◌-◌, List, [], ◌∷◌, get_or, sym, refl, ap, ◌∙◌, inl, inr}
+use Rattle.std.proofs.Common.{◌≡◌, ℕ, ◌-◌, List, [], ◌∷◌, get_or, sym, refl, ap, ◌∙◌, inl, inr, arith}
 use Rattle.hir.specs.Examples.{OneRefusal}
 use Rattle.hir.specs.Script.{Script}
 use Rattle.hir.specs.Seal.{First, FirstCause, Free, Part, causes, parts, site_of}
@@ -23,11 +23,7 @@ same_cause : (a b : Cause) → number_of a ≡ number_of b → a ≡ b
 same_cause a b e = sym (cause_at-number a) ∙ ap cause_at e ∙ cause_at-number b
 
 same_refusal : (n : ℕ) (l : Layer) (s : Site) (r q : Refusal) → Refuses n l s r → Refuses n l s q → r ≡ q
-same_refusal n l s r q a b =
-    let c = same_cause r.cause q.cause (a.row ∙ sym b.row) in
-    let k = a.layer ∙ sym b.layer in
-    let t = a.site ∙ sym b.site in
-    λ i. record { cause = c i; layer = k i; site = t i }
+same_refusal n l s r q a b = grind (arith, same_cause r.cause q.cause (a.row ∙ sym b.row))
 
 first_one : (room : ℕ) (s : Script) (c : Cause) (e ps : List Part) (r q : Refusal) → First room s c e ps r → First room s c e ps q → r ≡ q
 first_one room s c e [] r q f g = absurd f

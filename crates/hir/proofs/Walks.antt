@@ -4,8 +4,8 @@ use Rattle.hir.proofs.Members.{has-mem, mem_left, mem_right, mem_split}
 use Rattle.hir.specs.Accepted.{Precedes}
 use Rattle.hir.specs.Graph.{Graph, Reached, Walk, along, each, enter, entry, noted, walk, walked}
 use Rattle.hir.specs.Lists.{Mem, has, mod_at}
-use Rattle.std.proofs.lemmas.Bool.{both_ways, cases_eq, cond_both}
-use Rattle.std.proofs.lemmas.List.{get_or-set_other, get_or-set_same, length-replicate}
+use Rattle.std.proofs.lemmas.Bool.{both_ways, cases_eq, cases_lt, cond_both}
+use Rattle.std.proofs.lemmas.List.{get_or-replicate, get_or_past, set_past, get_or-set_other, get_or-set_same, length-replicate}
 use Rattle.std.proofs.lemmas.List.Sums.{count_by-le-length, sum_by-set}
 use Rattle.std.specs.List.{count_by}
 
@@ -22,9 +22,7 @@ trues bs = count_by (λ b. b) bs
 -- ---- entering a block
 
 set_keeps : (bs : List Bool) (b c : ℕ) → get_or bs c false ≡ true → get_or (set bs b true) c false ≡ true
-set_keeps (x ∷ bs) zero zero e = refl
-set_keeps (x ∷ bs) (suc b) (suc c) e = set_keeps bs b c e
-set_keeps bs b c e = e
+set_keeps bs b c e = grind (arith, get_or-set_same, get_or-set_other, set_past, cases_eq c b, cases_lt b (length bs))
 
 set_only : (bs : List Bool) (b c : ℕ) → get_or (set bs b true) c false ≡ true → (get_or bs c false ≡ true) ⊎ (c ≡ b)
 set_only bs b c e = elim (cases_eq c b) [ inl h ↦ inr h | inr h ↦ inl (rw (get_or-set_other bs b c true false h) at e) ]
@@ -196,9 +194,7 @@ module _ (n : ℕ) (g : Graph) (inside : (a b : ℕ) → Mem b (g a) → b < n) 
   blank = record { entered = replicate n false; predecessors = replicate n [] }
 
   blank_reads : {A : Type 0} (k b : ℕ) (x : A) → get_or (replicate k x) b x ≡ x
-  blank_reads (suc k) zero x = refl
-  blank_reads (suc k) (suc b) x = blank_reads k b x
-  blank_reads zero b x = refl
+  blank_reads k b x = grind (arith, get_or-replicate, get_or_past, length-replicate, cases_lt b k)
 
   module _ (some : 0 < n) where
     begun : Right (enter 0 blank)
