@@ -1,7 +1,8 @@
 -- Members of lists: as facts, as tests, and counted.
-use Rattle.std.proofs.Common.{◌≡◌, ℕ, ◌+◌, ◌≤◌, Bool, true, false, cond, not, eqb, ◌⊎◌, List, [], ◌∷◌, ◌++◌, refl, inl, inr, arith}
+use Rattle.std.proofs.Common.{◌≡◌, ℕ, ◌+◌, ◌≤◌, Bool, true, false, cond, eqb, ◌⊎◌, List, [], ◌∷◌, ◌++◌, refl, inl, inr, arith}
 use Rattle.hir.specs.Lists.{Mem, all, count, distinct, flat_map, has}
-use Rattle.std.proofs.lemmas.Bool.{and_parts, cases_Bool, cases_eq, eq-eqb, eqb-false, eqb-true, false≢true, ne_eqb, not-true, or_cases, or_parts}
+use Rattle.std.proofs.lemmas.Bool.{cases_Bool, eqb-true, false≢true, or_cases, or_parts}
+use Rattle.std.proofs.lemmas.Bool.Decides.{nat_tests}
 use Rattle.std.proofs.lemmas.Grind.{common_steps}
 use Rattle.std.proofs.lemmas.List.Recursion.{is_sum_by}
 
@@ -13,8 +14,7 @@ has-mem x (y ∷ ys) e = elim (or_cases (eqb x y) (has x ys) e) [ inl h ↦ inl 
 
 pub lacks : (x : ℕ) (xs : List ℕ) → has x xs ≡ false → Mem x xs → ⊥
 lacks x [] e m = m
-lacks x (y ∷ ys) e (inl h) = eqb-false x y (or_parts (eqb x y) (has x ys) e).0 h
-lacks x (y ∷ ys) e (inr h) = lacks x ys (or_parts (eqb x y) (has x ys) e).1 h
+lacks x (y ∷ ys) e m = grind (arith, nat_tests, lacks x ys)
 
 -- a number stands in a list, or does not
 pub member : (x : ℕ) (xs : List ℕ) → Mem x xs ⊎ (Mem x xs → ⊥)
@@ -22,8 +22,7 @@ member x xs = elim (cases_Bool (has x xs)) [ inl e ↦ inl (has-mem x xs e) | in
 
 pub all_mem : {A : Type 0} (p : A → Bool) (x : A) (xs : List A) → all p xs ≡ true → Mem x xs → p x ≡ true
 all_mem p x [] e m = absurd m
-all_mem p x (y ∷ ys) e (inl h) = rw h (and_parts _ _ e).0
-all_mem p x (y ∷ ys) e (inr h) = all_mem p x ys (and_parts _ _ e).1 h
+all_mem p x (y ∷ ys) e m = grind (arith, all_mem p x ys)
 
 pub all_has : (x : ℕ) (xs ys : List ℕ) → all (λ c. has c ys) xs ≡ true → Mem x xs → Mem x ys
 all_has x xs ys e m = has-mem x ys (all_mem (λ c. has c ys) x xs e m)
@@ -36,18 +35,15 @@ mem_right x (z ∷ xs) ys m = inr (mem_right x xs ys m)
 
 pub mem_left : {A : Type 0} (x : A) (xs ys : List A) → Mem x xs → Mem x (xs ++ ys)
 mem_left x [] ys m = absurd m
-mem_left x (z ∷ xs) ys (inl e) = inl e
-mem_left x (z ∷ xs) ys (inr m) = inr (mem_left x xs ys m)
+mem_left x (z ∷ xs) ys m = grind (arith, mem_left x xs ys)
 
 pub mem_split : {A : Type 0} (x : A) (xs ys : List A) → Mem x (xs ++ ys) → Mem x xs ⊎ Mem x ys
 mem_split x [] ys m = inr m
-mem_split x (z ∷ xs) ys (inl e) = inl (inl e)
-mem_split x (z ∷ xs) ys (inr m) = elim (mem_split x xs ys m) [ inl h ↦ inl (inr h) | inr h ↦ inr h ]
+mem_split x (z ∷ xs) ys m = grind (arith, mem_split x xs ys)
 
 pub mem-flat : {A B : Type 0} (f : A → List B) (x : A) (y : B) (xs : List A) → Mem x xs → Mem y (f x) → Mem y (flat_map f xs)
 mem-flat f x y [] m h = absurd m
-mem-flat f x y (z ∷ xs) (inl e) h = mem_left y (f z) (flat_map f xs) (rw e at h)
-mem-flat f x y (z ∷ xs) (inr m) h = mem_right y (f z) (flat_map f xs) (mem-flat f x y xs m h)
+mem-flat f x y (z ∷ xs) m h = grind (arith, mem_left, mem_right, mem-flat f x y xs)
 
 -- ---- counted
 
@@ -56,8 +52,7 @@ count-append x xs ys = grind (arith, common_steps, is_sum_by (count x) (λ y. co
 
 pub mem-count : (x : ℕ) (xs : List ℕ) → Mem x xs → 1 ≤ count x xs
 mem-count x [] m = absurd m
-mem-count x (y ∷ xs) (inl e) = rw (eq-eqb x y e) (omega arith)
-mem-count x (y ∷ xs) (inr m) = let ih = mem-count x xs m in omega arith
+mem-count x (y ∷ xs) m = grind (arith, nat_tests, mem-count x xs)
 
 count_none : (x : ℕ) (xs : List ℕ) → has x xs ≡ false → count x xs ≡ 0
 count_none x [] e = refl
@@ -66,9 +61,4 @@ count_none x (y ∷ xs) e = let o = or_parts (eqb x y) (has x xs) e in rw (o.0, 
 -- what is distinct has each number once at the most
 pub distinct-count : (x : ℕ) (xs : List ℕ) → distinct xs ≡ true → count x xs ≤ 1
 distinct-count x [] e = omega arith
-distinct-count x (y ∷ xs) e =
-    let d = and_parts (not (has y xs)) (distinct xs) e in
-    elim (cases_eq x y) [
-      | inl h ↦ (let none = count_none x xs (rw h (not-true _ d.0)) in rw (eq-eqb x y h) (omega arith))
-      | inr h ↦ rw (ne_eqb x y h) (let ih = distinct-count x xs d.1 in omega arith)
-    ]
+distinct-count x (y ∷ xs) e = grind (arith, nat_tests, count_none, distinct-count x xs)
