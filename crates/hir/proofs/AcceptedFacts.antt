@@ -1,5 +1,5 @@
 -- What it says of a script that the seal accepts it.
-use Rattle.std.proofs.Common.{◌≡◌, ℕ, ◌<◌, Bool, true, false, eqb, leb, List, [], ◌∷◌, map, length, get_or, Some, None, Option, sym, refl, subst, inl, inr, arith}
+use Rattle.std.proofs.Common.{◌≡◌, ℕ, ◌<◌, Bool, true, false, eqb, leb, List, [], ◌∷◌, map, length, get_or, Some, Option, sym, refl, subst, inl, inr, arith}
 use Rattle.hir.proofs.AssignedOnce.{assigned_once}
 use Rattle.hir.proofs.Members.{all_has, mem-flat, mem_left, mem_right, member}
 use Rattle.hir.proofs.Standing.{free_at, inhabited, stands}
@@ -8,7 +8,7 @@ use Rattle.hir.specs.Accepted.{Accepted, Forward, TakesEach}
 use Rattle.hir.specs.Graph.{Graph, Path, Reached, along, entry}
 use Rattle.hir.specs.Lists.{Mem, all, any, distinct, has, numbered}
 use Rattle.hir.specs.Script.{Phi, Script, Terminal}
-use Rattle.hir.specs.Seal.{Fault, Free, Part, SealAccepts, lacks_terminal, Unassigned, asks, block_parts, draft_block, draft_graph, draft_walk, further, leads, names, parameter, parts, takes_from, terminal}
+use Rattle.hir.specs.Seal.{Fault, Free, Part, SealAccepts, Unassigned, asks, block_parts, draft_block, draft_graph, draft_walk, further, leads, names, parameter, parts, takes_from, terminal}
 use Rattle.std.proofs.lemmas.List.{nil_from_length}
 use Rattle.std.proofs.lemmas.Bool.{and_parts, cases_lt, cases_order, false_from_ne_true, leb-false, not-false, or_parts, true≢false}
 use Rattle.table.specs.declared.refusal.Cause.{Cause}
@@ -18,8 +18,7 @@ use Rattle.table.specs.declared.refusal.Cause.TheVariants.{AssignedTwice, TableF
 
 any_not : (p : ℕ → Bool) (x : ℕ) (xs : List ℕ) → any p xs ≡ false → Mem x xs → p x ≡ false
 any_not p x [] e m = absurd m
-any_not p x (y ∷ ys) e (inl h) = rw h (or_parts _ _ e).0
-any_not p x (y ∷ ys) e (inr h) = any_not p x ys (or_parts _ _ e).1 h
+any_not p x (y ∷ ys) e m = grind (arith, any_not p x ys)
 
 -- from a number past the last block nothing leads on
 edge_inside : (s : Script) (a b : ℕ) → Mem b (draft_graph s a) → a < length s.blocks
@@ -75,11 +74,7 @@ module _ (room : ℕ) (s : Script) (ok : SealAccepts room s) where
       ]
 
   has_terminal : (b : ℕ) → b < length s.blocks → (t : Terminal) × ((draft_block s b).terminal ≡ Some t)
-  has_terminal b l = by (draft_block s b).terminal (never NoTerminal _ (stands s b l).2).1
-    where
-      by : (o : Option Terminal) → (lacks_terminal (terminal b o) ≡ true → ⊥) → (t : Terminal) × (o ≡ Some t)
-      by None f = absurd (f refl)
-      by (Some t) f = (t, refl)
+  has_terminal b l = let f = (never NoTerminal _ (stands s b l).2).1 in grind arith
 
   inside : (a b : ℕ) → Mem b (g a) → b < length s.blocks
   inside a b m =

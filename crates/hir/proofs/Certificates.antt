@@ -9,7 +9,8 @@ use Rattle.hir.specs.Places.{reads, writes}
 use Rattle.hir.specs.Script.{Instruction, Script}
 use Rattle.hir.specs.Seal.{Fault, First, FirstCause, Free, Part, SealAccepts, Unassigned, asks, assigned_along, assigned_by, assigned_in, blocks_of, causes, draft_block, draft_graph, draft_walk, lacks_terminal, leads, parts, site_of, successors_of, taken_from, takes_from}
 use Rattle.hir.specs.Seal.{phi, instruction, terminal, end}
-use Rattle.std.proofs.lemmas.Bool.{agree_below, agree_below_at, and_parts, both_ways, eqb-true, leb-true, not-true, or_cases}
+use Rattle.std.proofs.lemmas.Bool.Decides.{nat_tests}
+use Rattle.std.proofs.lemmas.Bool.{agree_below, agree_below_at, and_parts, both_ways, eqb-true, not-true, or_cases}
 use Rattle.std.specs.List.{AllByRecursion}
 use Rattle.table.specs.declared.refusal.Cause.{Cause}
 use Rattle.table.specs.declared.refusal.Cause.TheVariants.{TableFull, NamesNothing, NoTerminal, AssignedTwice, PhiOperands, EdgeBack, UseBeforeDefinition}
@@ -58,10 +59,7 @@ module _ (k : Certificate) (s : Script) (ok : linked k s ≡ true) where
   held_on : (b : ℕ) (h : List ℕ) → Path (draft_graph s) (b ∷ h) → (d : ℕ) → Mem d (held_at k b) → Mem d (b ∷ h)
   held_on b h (entry) d m = inl (eqb-true d 0 (all_mem _ d (held_at k 0) (and_parts _ _ (and_parts _ _ ok).0).1 m))
   held_on b h (along {a = a} {b = c} {h = g} w e) d m =
-      elim (or_cases _ _ (all_mem (holds k a b) d (held_at k b) (edge_linked a b e).1 m)) [
-        | inl t ↦ inl (eqb-true d b t)
-        | inr t ↦ inr (held_on a g w d (has-mem d (held_at k a) t))
-      ]
+      let held = all_mem (holds k a b) d (held_at k b) (edge_linked a b e).1 m in grind (arith, nat_tests, has-mem, held_on a g w)
 
 -- ---- a test for each cause at each part, which passes where there is no fault
 
@@ -105,10 +103,7 @@ module _ (room : ℕ) (k : Certificate) (s : Script) (ok : linked k s ≡ true) 
   sound AssignedTwice p earlier e f = both_ways _ f e
   sound PhiOperands (phi b n φ) earlier e f = both_ways _ (not-true _ e) f
   sound EdgeBack (terminal b t) earlier e (h, w, (c, l, m, not_in)) =
-      elim (or_cases _ _ (all_mem (λ d. leb b d || has d (held_at k b)) c (leads t) e m)) [
-        | inl t ↦ (let u = leb-true b c t in absurd (omega arith))
-        | inr t ↦ not_in (held_on k s ok b h w c (has-mem c (held_at k b) t))
-      ]
+      let held = all_mem (λ d. leb b d || has d (held_at k b)) c (leads t) e m in grind (arith, nat_tests, has-mem, held_on k s ok b h w)
   sound UseBeforeDefinition (instruction b n before i) earlier e f = uses_sound b (done_before s b before) (reads i) e f
   sound UseBeforeDefinition (terminal b t) earlier e f = uses_sound b (done_before s b (draft_block s b).code) (asks t) e f
   sound UseBeforeDefinition (end b) earlier e f = uses_sound b (assigned_in (draft_block s b)) _ e f

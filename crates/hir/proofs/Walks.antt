@@ -4,7 +4,7 @@ use Rattle.hir.proofs.Members.{has-mem, mem_left, mem_right, mem_split}
 use Rattle.hir.specs.Accepted.{Precedes}
 use Rattle.hir.specs.Graph.{Graph, Reached, Walk, along, each, enter, entry, noted, walk, walked}
 use Rattle.hir.specs.Lists.{Mem, has, mod_at}
-use Rattle.std.proofs.lemmas.Bool.{both_ways, cases_eq, cases_lt, cond_both}
+use Rattle.std.proofs.lemmas.Bool.{both_ways, cases_eq, cases_lt}
 use Rattle.std.proofs.lemmas.List.{get_or-replicate, get_or_past, set_past, get_or-set_other, get_or-set_same, length-replicate}
 use Rattle.std.proofs.lemmas.List.Sums.{count_by-le-length, sum_by-set}
 use Rattle.std.specs.List.{count_by}
@@ -37,20 +37,18 @@ added a xs = cond (has a xs) xs (xs ++ a ∷ [])
 
 mod_has : (a b : ℕ) (ps : List (List ℕ)) → b < length ps → Mem a (get_or (mod_at (added a) b ps) b [])
 mod_has a b [] l = absurd (omega arith)
-mod_has a zero (p ∷ ps) l = cond_both (has a p) p (p ++ a ∷ []) (Mem a) (has-mem a p) (λ e. mem_right a p (a ∷ []) (inl refl))
+mod_has a zero (p ∷ ps) l = grind (arith, has-mem, mem_right)
 mod_has a (suc b) (p ∷ ps) l = mod_has a b ps (omega arith)
 
 mod_keeps : (a b c x : ℕ) (ps : List (List ℕ)) → Mem x (get_or ps c []) → Mem x (get_or (mod_at (added a) b ps) c [])
 mod_keeps a b c x [] m = m
-mod_keeps a zero zero x (p ∷ ps) m = cond_both (has a p) p (p ++ a ∷ []) (Mem x) (λ e. m) (λ e. mem_left x p (a ∷ []) m)
+mod_keeps a zero zero x (p ∷ ps) m = grind (arith, mem_left)
 mod_keeps a (suc b) (suc c) x (p ∷ ps) m = mod_keeps a b c x ps m
 mod_keeps a b c x ps m = m
 
 mod_only : (a b c x : ℕ) (ps : List (List ℕ)) → Mem x (get_or (mod_at (added a) b ps) c []) → Mem x (get_or ps c []) ⊎ ((x ≡ a) × (c ≡ b))
 mod_only a b c x [] m = inl m
-mod_only a zero zero x (p ∷ ps) m =
-    cond_both (has a p) p (p ++ a ∷ []) (λ ys. Mem x ys → Mem x p ⊎ ((x ≡ a) × (zero ≡ zero))) (λ e k. inl k)
-    (λ e k. elim (mem_split x p (a ∷ []) k) [ inl h ↦ inl h | inr (inl h) ↦ inr (h, refl) | inr (inr h) ↦ absurd h ]) m
+mod_only a zero zero x (p ∷ ps) m = grind (arith, mem_split x p (a ∷ []))
 mod_only a (suc b) (suc c) x (p ∷ ps) m = elim (mod_only a b c x ps m) [ inl h ↦ inl h | inr h ↦ inr (h.0, ap suc h.1) ]
 mod_only a b c x ps m = inl m
 
