@@ -102,7 +102,7 @@ module _ (n : ℕ) (g : Graph) (inside : (a b : ℕ) → Mem b (g a) → b < n) 
     many = r.many;
     lists = mod_length (added a) b w.predecessors ∙ r.lists;
     reached = r.reached;
-    leads = λ x c k. elim (mod_only a b c x w.predecessors k) [ inl h ↦ r.leads x c h | inr h ↦ rw (h.0, h.1) (ra, m) ];
+    leads = λ x c k. grind (arith, mod_only a b c x w.predecessors k, r.leads x c, ra, m);
   }
 
   note_grew : (a b : ℕ) (w : Walk) → Grew w (noted a b w)
@@ -153,7 +153,7 @@ module _ (n : ℕ) (g : Graph) (inside : (a b : ℕ) → Mem b (g a) → b < n) 
       right = note_right a b w ra m r;
       grown = note_grew a b w;
       since = λ c h. inl h;
-      done = λ c k. elim k [ inl h ↦ rw h (mod_has a b w.predecessors (rw r.lists (inside a b m)), e) | inr h ↦ absurd h ];
+      done = λ c k. grind (arith, mod_has a b w.predecessors (rw r.lists (inside a b m)), e);
     }
     edge_walked b m w r f false e =
         let l : b < n = inside a b m in
@@ -167,11 +167,8 @@ module _ (n : ℕ) (g : Graph) (inside : (a b : ℕ) → Mem b (g a) → b < n) 
         record {
           right = on.right;
           grown = grew w ent (go b ent) (grew w next ent (note_grew a b w) (enter_grew b next r' l e)) on.grown;
-          since = λ c h. elim (on.since c h) [
-            | inl k ↦ elim (set_only w.entered b c k) [ inl o ↦ inl o | inr o ↦ inr (rw o on.done) ]
-            | inr k ↦ inr k
-          ];
-          done = λ c k. elim k [ inl h ↦ rw h (followed_later ent (go b ent) on.grown a b at) | inr h ↦ absurd h ];
+          since = λ c h. grind (arith, on.since c h, set_only w.entered b c, on.done);
+          done = λ c k. grind (arith, followed_later ent (go b ent) on.grown a b at);
         }
 
     each_walked : (bs : List ℕ) → ((b : ℕ) → Mem b bs → Mem b (g a)) → (w : Walk) → Right w → n < suc d + trues w.entered → Walked a bs w (each go a bs w)
@@ -207,11 +204,7 @@ module _ (n : ℕ) (g : Graph) (inside : (a b : ℕ) → Mem b (g a) → b < n) 
 
     every_done : (c : ℕ) → Entered (walked n g) c → Done (walked n g) c
     unfolding blank
-    every_done c e =
-        elim (all_walked.since c e) [
-          | inl h ↦ elim (set_only (replicate n false) 0 c h) [ inl k ↦ absurd (both_ways _ (blank_reads n c false) k) | inr k ↦ rw k all_walked.done ]
-          | inr h ↦ h
-        ]
+    every_done c e = grind (arith, all_walked.since c e, set_only (replicate n false) 0 c, blank_reads n c false, all_walked.done)
 
     pub reached_entered : (b : ℕ) → Reached g b → Entered (walked n g) b
     unfolding blank
