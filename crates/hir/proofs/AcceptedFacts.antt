@@ -8,9 +8,9 @@ use Rattle.hir.specs.Accepted.{Accepted, Forward, TakesEach}
 use Rattle.hir.specs.Graph.{Graph, Path, Reached, along, entry}
 use Rattle.hir.specs.Lists.{Mem, all, any, distinct, has, numbered}
 use Rattle.hir.specs.Script.{Phi, Script, Terminal}
-use Rattle.hir.specs.Seal.{Fault, Free, Part, SealAccepts, Unassigned, asks, block_parts, draft_block, draft_graph, draft_walk, further, leads, names, parameter, parts, takes_from, terminal}
+use Rattle.hir.specs.Seal.{Fault, Free, Part, SealAccepts, Unassigned, asks, draft_block, draft_graph, draft_walk, further, leads, names, parameter, parts, takes_from, terminal}
 use Rattle.std.proofs.lemmas.List.{nil_from_length}
-use Rattle.std.proofs.lemmas.Bool.{and_parts, cases_lt, cases_order, false_from_ne_true, leb-false, not-false, or_parts, true≢false}
+use Rattle.std.proofs.lemmas.Bool.{and_parts, cases_order, false_from_ne_true, leb-false, not-false, or_parts, true≢false}
 use Rattle.table.specs.declared.refusal.Cause.{Cause}
 use Rattle.table.specs.declared.refusal.Cause.TheVariants.{AssignedTwice, TableFull, EdgeBack, NamesNothing, NoTerminal, PhiOperands, UseBeforeDefinition}
 
@@ -64,14 +64,7 @@ module _ (room : ℕ) (s : Script) (ok : SealAccepts room s) where
   never c p m = free_at room s c [] (parts s) (free c) p m
 
   has_entry : 0 < length s.blocks
-  has_entry =
-      elim (cases_lt 0 (length s.blocks)) [
-        | inl l ↦ l
-        | inr l ↦ (
-            let none : s.blocks ≡ [] = nil_from_length s.blocks (omega arith) in
-            let m = mem_right (further 0) (numbered parameter 0 s.parameters) (block_parts 0 0 0 s.blocks) (rw none (inl refl)) in
-            absurd ((never NoTerminal (further 0) m).1 refl))
-      ]
+  has_entry = grind (arith, never NoTerminal (further 0), mem_right (further 0) (numbered parameter 0 s.parameters), nil_from_length s.blocks)
 
   has_terminal : (b : ℕ) → b < length s.blocks → (t : Terminal) × ((draft_block s b).terminal ≡ Some t)
   has_terminal b l = let f = (never NoTerminal _ (stands s b l).2).1 in grind arith
@@ -95,11 +88,11 @@ module _ (room : ℕ) (s : Script) (ok : SealAccepts room s) where
       (o.0, not-false _ o.1)
 
   entry_clean : (draft_block s 0).phis ≡ []
-  entry_clean = by (draft_block s 0).phis (λ φ m. (phi_fits 0 ([], entry) φ m).0)
+  entry_clean = by (draft_block s 0).phis (λ φ m. true≢false (phi_fits 0 ([], entry) φ m).0)
     where
-      by : (φs : List Phi) → ((φ : Phi) → Mem φ φs → true ≡ false) → φs ≡ []
+      by : (φs : List Phi) → ((φ : Phi) → Mem φ φs → ⊥) → φs ≡ []
       by [] f = refl
-      by (φ ∷ φs) f = absurd (true≢false (f φ (inl refl)))
+      by (φ ∷ φs) f = absurd (f φ (inl refl))
 
   takes_each : (b : ℕ) → Reached g b → (φ : Phi) → Mem φ (draft_block s b).phis → TakesEach g b φ
   takes_each b r φ m =

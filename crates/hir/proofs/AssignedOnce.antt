@@ -1,10 +1,10 @@
 -- In an accepted draft each identifier is assigned at one position at the most.
-use Rattle.std.proofs.Common.{◌≡◌, ℕ, suc, ◌+◌, ◌≤◌, List, [], ◌∷◌, ◌++◌, map, length, Option, refl, ◌∙◌, arith}
+use Rattle.std.proofs.Common.{◌≡◌, ℕ, suc, ◌+◌, ◌≤◌, List, [], ◌∷◌, ◌++◌, map, length, Option, refl, arith}
 use Rattle.hir.proofs.Members.{count-append, distinct-count}
 use Rattle.hir.specs.Lists.{count, flat_map, numbered, total}
 use Rattle.hir.specs.Places.{writes}
 use Rattle.hir.specs.Script.{Block, Instruction, Script, Terminal}
-use Rattle.hir.specs.Seal.{Free, Part, assigned_by, assigned_in, binds, block_parts, instruction_parts, parameter, parts, phi}
+use Rattle.hir.specs.Seal.{Free, Part, assigned_by, assigned_in, block_parts, instruction_parts, parameter, parts, phi}
 use Rattle.std.proofs.lemmas.Bool.{true_from_ne_false}
 use Rattle.std.proofs.lemmas.Grind.{common_steps}
 use Rattle.std.proofs.lemmas.List.{map-id}
@@ -37,14 +37,10 @@ module _ (x : ℕ) where
   blocks_at : (b p i : ℕ) (Bs : List (Block (Option Terminal))) → total at (block_parts b p i Bs) ≡ total (λ B. count x (assigned_in B)) Bs
   blocks_at b p i [] = refl
   blocks_at b p i (B ∷ Bs) =
-      let front = numbered (phi b) p B.phis in
-      let code = instruction_parts b i [] B.code in
-      let places = map (λ φ. φ.place) B.phis in
       let phis = numbered_at (phi b) (λ φ. φ.place) (λ n φ. refl) p B.phis in
+      let code = code_at b i [] B.code in
       let ih = blocks_at (suc b) (p + length B.phis) (i + length B.code) Bs in
-      let all = count-append x (places ++ flat_map writes B.code) (binds B.terminal) in
-      let some = count-append x places (flat_map writes B.code) in
-      total-append at (front ++ code) _ ∙ omega (arith, total-append at front code, code_at b i [] B.code)
+      grind (arith, total-append at, count-append x)
 
   parts_at : (s : Script) → total at (parts s) ≡ count x s.parameters + total (λ B. count x (assigned_in B)) s.blocks
   parts_at s =
@@ -55,10 +51,7 @@ module _ (x : ℕ) where
   once : (room : ℕ) (s : Script) (e ps : List Part) → total at e ≤ 1 → Free room s AssignedTwice e ps → total at ps + total at e ≤ 1
   once room s e [] l f = omega arith
   once room s e (p ∷ ps) l f =
-      let one = distinct-count x (flat_map assigned_by (p ∷ e)) (true_from_ne_false _ f.0) in
-      let c = count-flat x assigned_by (p ∷ e) in
-      let ih = once room s (p ∷ e) ps (omega arith) f.1 in
-      omega arith
+      grind (arith, distinct-count x (flat_map assigned_by (p ∷ e)), true_from_ne_false, count-flat x assigned_by (p ∷ e), once room s (p ∷ e) ps)
 
 pub assigned_once : (room : ℕ) (s : Script) → Free room s AssignedTwice [] (parts s) → (x : ℕ) → count x s.parameters + total (λ B. count x (assigned_in B)) s.blocks ≤ 1
 assigned_once room s f x = omega (arith, once x room s [] (parts s) (omega arith) f, parts_at x s)

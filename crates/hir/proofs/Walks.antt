@@ -88,11 +88,7 @@ module _ (n : ℕ) (g : Graph) (inside : (a b : ℕ) → Mem b (g a) → b < n) 
   same w = record { entered = λ b e. e; noted' = λ a b m. m; more = le_refl _ }
 
   grew : (u v w : Walk) → Grew u v → Grew v w → Grew u w
-  grew u v w p q = record {
-    entered = λ b e. q.entered b (p.entered b e);
-    noted' = λ a b m. q.noted' a b (p.noted' a b m);
-    more = le_trans p.more q.more;
-  }
+  grew u v w p q = search (p.entered, q.entered, p.noted', q.noted', p.more, q.more, le_trans)
 
   followed_later : (v w : Walk) → Grew v w → (a b : ℕ) → Followed v a b → Followed w a b
   followed_later v w p a b f = (p.noted' a b f.0, p.entered b f.1)
