@@ -1,5 +1,6 @@
 -- A draft is accepted, or refused at a part, where lists of what every path brings are checked edge by edge.
-use Rattle.std.proofs.Common.{◌≡◌, ℕ, Bool, true, false, not, ◌&&◌, ◌||◌, eqb, ltb, leb, List, [], ◌∷◌, ◌++◌, map, length, get_or, refl, inl, inr, arith}
+use Rattle.std.proofs.Common.{◌≡◌, ℕ, Bool, true, false, not, ◌&&◌, ◌||◌, eqb, ltb, leb, List, [], ◌∷◌, ◌++◌, map, length, get_or, reverse, refl, inl, inr, arith}
+use mathlib.Core.List.{reverse_aux}
 use Rattle.hir.proofs.Members.{all_has, all_mem, has-mem, mem_left, mem_right}
 use Rattle.hir.proofs.Standing.{inhabited}
 use Rattle.hir.specs.Examples.{refusal}
@@ -84,13 +85,7 @@ tested_all room k s c earlier [] = true
 tested_all room k s c earlier (p ∷ ps) = tested room k s c p earlier && tested_all room k s c (p ∷ earlier) ps
 
 abbrev pub tested_causes : ℕ → Certificate → Script → List Cause → Bool
-tested_causes room k s [] = true
-tested_causes room k s (c ∷ cs) = tested_all room k s c [] (parts s) && tested_causes room k s cs
-
--- the parts of the front before those that are earlier, the last first
-abbrev pub onto : List Part → List Part → List Part
-onto [] earlier = earlier
-onto (p ∷ ps) earlier = onto ps (p ∷ earlier)
+tested_causes room k s cs = all (λ c. tested_all room k s c [] (parts s)) cs
 
 module _ (room : ℕ) (k : Certificate) (s : Script) (ok : linked k s ≡ true) where
   uses_sound : (b : ℕ) (done xs : List ℕ) → all (brings k b done) xs ≡ true → Unassigned s b xs (λ h. done ++ assigned_along s h) → ⊥
@@ -123,7 +118,7 @@ module _ (room : ℕ) (k : Certificate) (s : Script) (ok : linked k s ≡ true) 
   accepted e = all_free causes e
 
   first_by : (c : Cause) (earlier front : List Part) (p : Part) (rest : List Part) → tested_all room k s c earlier front ≡ true
-      → Fault room s c p (onto front earlier) → First room s c earlier (front ++ p ∷ rest) (refusal c (site_of p))
+      → Fault room s c p (reverse_aux front earlier) → First room s c earlier (front ++ p ∷ rest) (refusal c (site_of p))
   first_by c earlier [] p rest e f = inl (f, record { row = refl; layer = refl; site = refl })
   first_by c earlier (q ∷ front) p rest e f =
       inr (sound c q earlier (and_parts _ _ e).0, first_by c (q ∷ earlier) front p rest (and_parts _ _ e).1 f)
@@ -131,8 +126,7 @@ module _ (room : ℕ) (k : Certificate) (s : Script) (ok : linked k s ≡ true) 
   -- causes before c apply nowhere, c applies at p, and at no part in front of it
   pub refused : (higher : List Cause) (c : Cause) (lower : List Cause) (front : List Part) (p : Part) (rest : List Part)
       → tested_causes room k s higher ≡ true → tested_all room k s c [] front ≡ true → parts s ≡ front ++ p ∷ rest
-      → Fault room s c p (onto front []) → FirstCause room s (higher ++ c ∷ lower) (refusal c (site_of p))
-  refused [] c lower front p rest h e is f =
-      inl (rw is (first_by c [] front p rest e f))
+      → Fault room s c p (reverse front) → FirstCause room s (higher ++ c ∷ lower) (refusal c (site_of p))
+  refused [] c lower front p rest h e is f = inl (rw is (first_by c [] front p rest e f))
   refused (d ∷ higher) c lower front p rest h e is f =
       inr (free_by d [] (parts s) (and_parts _ _ h).0, refused higher c lower front p rest (and_parts _ _ h).1 e is f)

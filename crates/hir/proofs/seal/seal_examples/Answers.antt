@@ -1,5 +1,5 @@
-use Rattle.std.proofs.Common.{◌≡◌, ℕ, suc, ◌-◌, true, [], ◌∷◌, ◌++◌, get_or, take, drop, refl, inl, inr, arith}
-use Rattle.hir.proofs.Certificates.{Certificate, accepted, linked, onto, refused, tested_all, tested_causes}
+use Rattle.std.proofs.Common.{◌≡◌, ℕ, suc, ◌-◌, true, [], ◌∷◌, ◌++◌, get_or, reverse, take, drop, refl, inl, inr, arith}
+use Rattle.hir.proofs.Certificates.{Certificate, accepted, linked, refused, tested_all, tested_causes}
 use Rattle.hir.proofs.Members.{lacks}
 use Rattle.hir.proofs.OneRefusal.{cause_at}
 use Rattle.hir.proofs.seal.seal_examples.Goals as goal
@@ -19,7 +19,7 @@ part_at s j = get_or (parts s) j (further 0)
 -- refused for the cause of row h, at part j
 refuses : (room : ℕ) (k : Certificate) (s : Script) (h j : ℕ) → linked k s ≡ true → tested_causes room k s (take (h - 1) causes) ≡ true
     → tested_all room k s (cause_at h) [] (take j (parts s)) ≡ true → parts s ≡ take j (parts s) ++ part_at s j ∷ drop (suc j) (parts s)
-    → Fault room s (cause_at h) (part_at s j) (onto (take j (parts s)) [])
+    → Fault room s (cause_at h) (part_at s j) (reverse (take j (parts s)))
     → FirstCause room s (take (h - 1) causes ++ cause_at h ∷ drop h causes) (refusal (cause_at h) (site_of (part_at s j)))
 refuses room k s h j ok above front is f = refused room k s ok (take (h - 1) causes) (cause_at h) (drop h causes) (take j (parts s)) (part_at s j) (drop (suc j) (parts s)) above front is f
 
