@@ -10,7 +10,7 @@ use Rattle.hir.specs.Lists.{Mem, all, any, distinct, has, numbered}
 use Rattle.hir.specs.Script.{Phi, Script, Terminal}
 use Rattle.hir.specs.Seal.{Fault, Free, Part, SealAccepts, Unassigned, asks, draft_block, draft_graph, draft_walk, further, leads, names, parameter, parts, takes_from, terminal}
 use Rattle.std.proofs.lemmas.List.{nil_from_length}
-use Rattle.std.proofs.lemmas.Bool.{and_parts, cases_order, false_from_ne_true, leb-false, not-false, or_parts, true≢false}
+use Rattle.std.proofs.lemmas.Bool.{and_parts, cases_order, false_from_ne_true, leb-false, true≢false}
 use Rattle.table.specs.declared.refusal.Cause.{Cause}
 use Rattle.table.specs.declared.refusal.Cause.TheVariants.{AssignedTwice, TableFull, EdgeBack, NamesNothing, NoTerminal, PhiOperands, UseBeforeDefinition}
 
@@ -83,9 +83,7 @@ module _ (room : ℕ) (s : Script) (ok : SealAccepts room s) where
       → (eqb b 0 ≡ false) × (takes_from (get_or (draft_walk s).predecessors b []) φ ≡ true)
   phi_fits b r φ m =
       let at = (stands s b (inhabited s b (λ B. B.phis) φ refl m)).0 φ m in
-      let f = never PhiOperands _ at.1 in
-      let o = or_parts _ _ (rw (entered b r) at (false_from_ne_true _ f.1)) in
-      (o.0, not-false _ o.1)
+      grind (arith, (never PhiOperands _ at.1).1, entered b r)
 
   entry_clean : (draft_block s 0).phis ≡ []
   entry_clean = by (draft_block s 0).phis (λ φ m. true≢false (phi_fits 0 ([], entry) φ m).0)

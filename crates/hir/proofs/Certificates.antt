@@ -42,26 +42,6 @@ linked k s =
     (all (λ x. has x s.parameters) (assigned_at k 0) && all (λ d. eqb d 0) (held_at k 0))
     && agree_below (λ a. all (λ b. all (brings k a (assigned_in (draft_block s a))) (assigned_at k b) && all (holds k a b) (held_at k b)) (draft_graph s a)) (λ a. true) (length s.blocks)
 
-module _ (k : Certificate) (s : Script) (ok : linked k s ≡ true) where
-  edge_linked : (a b : ℕ) → Mem b (draft_graph s a) → (all (brings k a (assigned_in (draft_block s a))) (assigned_at k b) ≡ true) × (all (holds k a b) (held_at k b) ≡ true)
-  edge_linked a b m =
-      let inside = inhabited s a (λ B. leads B.terminal) b refl m in
-      and_parts _ _ (all_mem _ b (draft_graph s a) (agree_below_at _ (λ c. true) (length s.blocks) a (and_parts _ _ ok).1 inside) m)
-
-  brought : (b : ℕ) (h done : List ℕ) (x : ℕ) → (Mem x (assigned_at k b) → Mem x (assigned_along s h)) → brings k b done x ≡ true → Mem x (done ++ assigned_along s h)
-  brought b h done x on e = elim (or_cases _ _ e) [ inl t ↦ mem_right x done _ (on (has-mem x _ t)) | inr t ↦ mem_left x done _ (has-mem x done t) ]
-
-  -- what the certificate says to be assigned before the last block of a path is assigned along what leads to it
-  assigned_on_lem : (b : ℕ) (h : List ℕ) → Path (draft_graph s) (b ∷ h) → (x : ℕ) → Mem x (assigned_at k b) → Mem x (assigned_along s h)
-  assigned_on_lem b h (entry) x m = all_has x (assigned_at k 0) s.parameters (and_parts _ _ (and_parts _ _ ok).0).0 m
-  assigned_on_lem b h (along {a = a} {b = c} {h = g} w e) x m =
-      brought a g (assigned_in (draft_block s a)) x (assigned_on_lem a g w x) (all_mem _ x (assigned_at k b) (edge_linked a b e).0 m)
-
-  held_on : (b : ℕ) (h : List ℕ) → Path (draft_graph s) (b ∷ h) → (d : ℕ) → Mem d (held_at k b) → Mem d (b ∷ h)
-  held_on b h (entry) d m = inl (eqb-true d 0 (all_mem _ d (held_at k 0) (and_parts _ _ (and_parts _ _ ok).0).1 m))
-  held_on b h (along {a = a} {b = c} {h = g} w e) d m =
-      let held = all_mem (holds k a b) d (held_at k b) (edge_linked a b e).1 m in grind (arith, nat_tests, has-mem, held_on a g w)
-
 -- ---- a test for each cause at each part, which passes where there is no fault
 
 abbrev done_before : Script → ℕ → List Instruction → List ℕ
@@ -87,9 +67,30 @@ tested_all room k s c earlier (p ∷ ps) = tested room k s c p earlier && tested
 abbrev pub tested_causes : ℕ → Certificate → Script → List Cause → Bool
 tested_causes room k s cs = all (λ c. tested_all room k s c [] (parts s)) cs
 
+-- ---- what passes is free of faults
+
 module _ (room : ℕ) (k : Certificate) (s : Script) (ok : linked k s ≡ true) where
+  edge_linked : (a b : ℕ) → Mem b (draft_graph s a) → (all (brings k a (assigned_in (draft_block s a))) (assigned_at k b) ≡ true) × (all (holds k a b) (held_at k b) ≡ true)
+  edge_linked a b m =
+      let inside = inhabited s a (λ B. leads B.terminal) b refl m in
+      and_parts _ _ (all_mem _ b (draft_graph s a) (agree_below_at _ (λ c. true) (length s.blocks) a (and_parts _ _ ok).1 inside) m)
+
+  brought : (b : ℕ) (h done : List ℕ) (x : ℕ) → (Mem x (assigned_at k b) → Mem x (assigned_along s h)) → brings k b done x ≡ true → Mem x (done ++ assigned_along s h)
+  brought b h done x on e = elim (or_cases _ _ e) [ inl t ↦ mem_right x done _ (on (has-mem x _ t)) | inr t ↦ mem_left x done _ (has-mem x done t) ]
+
+  -- what the certificate says to be assigned before the last block of a path is assigned along what leads to it
+  assigned_on_lem : (b : ℕ) (h : List ℕ) → Path (draft_graph s) (b ∷ h) → (x : ℕ) → Mem x (assigned_at k b) → Mem x (assigned_along s h)
+  assigned_on_lem b h (entry) x m = all_has x (assigned_at k 0) s.parameters (and_parts _ _ (and_parts _ _ ok).0).0 m
+  assigned_on_lem b h (along {a = a} {b = c} {h = g} w e) x m =
+      brought a g (assigned_in (draft_block s a)) x (assigned_on_lem a g w x) (all_mem _ x (assigned_at k b) (edge_linked a b e).0 m)
+
+  held_on : (b : ℕ) (h : List ℕ) → Path (draft_graph s) (b ∷ h) → (d : ℕ) → Mem d (held_at k b) → Mem d (b ∷ h)
+  held_on b h (entry) d m = inl (eqb-true d 0 (all_mem _ d (held_at k 0) (and_parts _ _ (and_parts _ _ ok).0).1 m))
+  held_on b h (along {a = a} {b = c} {h = g} w e) d m =
+      let held = all_mem (holds k a b) d (held_at k b) (edge_linked a b e).1 m in grind (arith, nat_tests, has-mem, held_on a g w)
+
   uses_sound : (b : ℕ) (done xs : List ℕ) → all (brings k b done) xs ≡ true → Unassigned s b xs (λ h. done ++ assigned_along s h) → ⊥
-  uses_sound b done xs e (h, w, (x, m, not_in)) = not_in (brought k s ok b h done x (assigned_on_lem k s ok b h w x) (all_mem _ x xs e m))
+  uses_sound b done xs e (h, w, (x, m, not_in)) = not_in (brought b h done x (assigned_on_lem b h w x) (all_mem _ x xs e m))
 
   sound : (c : Cause) (p : Part) (earlier : List Part) → tested room k s c p earlier ≡ true → Fault room s c p earlier → ⊥
   sound TableFull p earlier e f = both_ways _ (not-true _ e) f
@@ -98,7 +99,7 @@ module _ (room : ℕ) (k : Certificate) (s : Script) (ok : linked k s ≡ true) 
   sound AssignedTwice p earlier e f = both_ways _ f e
   sound PhiOperands (phi b n φ) earlier e f = both_ways _ (not-true _ e) f
   sound EdgeBack (terminal b t) earlier e (h, w, (c, l, m, not_in)) =
-      let held = all_mem (λ d. leb b d || has d (held_at k b)) c (leads t) e m in grind (arith, nat_tests, has-mem, held_on k s ok b h w)
+      let held = all_mem (λ d. leb b d || has d (held_at k b)) c (leads t) e m in grind (arith, nat_tests, has-mem, held_on b h w)
   sound UseBeforeDefinition (instruction b n before i) earlier e f = uses_sound b (done_before s b before) (reads i) e f
   sound UseBeforeDefinition (terminal b t) earlier e f = uses_sound b (done_before s b (draft_block s b).code) (asks t) e f
   sound UseBeforeDefinition (end b) earlier e f = uses_sound b (assigned_in (draft_block s b)) _ e f
