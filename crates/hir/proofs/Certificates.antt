@@ -11,7 +11,7 @@ use Rattle.hir.specs.Script.{Instruction, Script}
 use Rattle.hir.specs.Seal.{Fault, First, FirstCause, Free, Part, SealAccepts, Unassigned, asks, assigned_along, assigned_by, assigned_in, blocks_of, causes, draft_block, draft_graph, draft_walk, lacks_terminal, leads, parts, site_of, successors_of, taken_from, takes_from}
 use Rattle.hir.specs.Seal.{phi, instruction, terminal, end}
 use Rattle.std.proofs.lemmas.Bool.Decides.{nat_tests}
-use Rattle.std.proofs.lemmas.Bool.{agree_below, agree_below_at, and_parts, both_ways, eqb-true, not-true, or_cases}
+use Rattle.std.proofs.lemmas.Bool.{agree_below, agree_below_at, and_parts, eqb-true, or_cases}
 use Rattle.std.specs.List.{AllByRecursion}
 use Rattle.table.specs.declared.refusal.Cause.{Cause}
 use Rattle.table.specs.declared.refusal.Cause.TheVariants.{TableFull, NamesNothing, NoTerminal, AssignedTwice, PhiOperands, EdgeBack, UseBeforeDefinition}
@@ -79,31 +79,26 @@ module _ (room : ℕ) (k : Certificate) (s : Script) (ok : linked k s ≡ true) 
   brought b h done x on e = elim (or_cases _ _ e) [ inl t ↦ mem_right x done _ (on (has-mem x _ t)) | inr t ↦ mem_left x done _ (has-mem x done t) ]
 
   -- what the certificate says to be assigned before the last block of a path is assigned along what leads to it
-  assigned_on_lem : (b : ℕ) (h : List ℕ) → Path (draft_graph s) (b ∷ h) → (x : ℕ) → Mem x (assigned_at k b) → Mem x (assigned_along s h)
-  assigned_on_lem b h (entry) x m = all_has x (assigned_at k 0) s.parameters (and_parts _ _ (and_parts _ _ ok).0).0 m
-  assigned_on_lem b h (along {a = a} {b = c} {h = g} w e) x m =
-      brought a g (assigned_in (draft_block s a)) x (assigned_on_lem a g w x) (all_mem _ x (assigned_at k b) (edge_linked a b e).0 m)
+  assigned_on : (b : ℕ) (h : List ℕ) → Path (draft_graph s) (b ∷ h) → (x : ℕ) → Mem x (assigned_at k b) → Mem x (assigned_along s h)
+  assigned_on b h entry x m = all_has x (assigned_at k 0) s.parameters (and_parts _ _ (and_parts _ _ ok).0).0 m
+  assigned_on b h (along {a = a} {b = c} {h = g} w e) x m =
+      brought a g (assigned_in (draft_block s a)) x (assigned_on a g w x) (all_mem _ x (assigned_at k b) (edge_linked a b e).0 m)
 
   held_on : (b : ℕ) (h : List ℕ) → Path (draft_graph s) (b ∷ h) → (d : ℕ) → Mem d (held_at k b) → Mem d (b ∷ h)
-  held_on b h (entry) d m = inl (eqb-true d 0 (all_mem _ d (held_at k 0) (and_parts _ _ (and_parts _ _ ok).0).1 m))
+  held_on b h entry d m = inl (eqb-true d 0 (all_mem _ d (held_at k 0) (and_parts _ _ (and_parts _ _ ok).0).1 m))
   held_on b h (along {a = a} {b = c} {h = g} w e) d m =
       let held = all_mem (holds k a b) d (held_at k b) (edge_linked a b e).1 m in grind (arith, nat_tests, has-mem, held_on a g w)
 
   uses_sound : (b : ℕ) (done xs : List ℕ) → all (brings k b done) xs ≡ true → Unassigned s b xs (λ h. done ++ assigned_along s h) → ⊥
-  uses_sound b done xs e (h, w, (x, m, not_in)) = not_in (brought b h done x (assigned_on_lem b h w x) (all_mem _ x xs e m))
+  uses_sound b done xs e (h, w, (x, m, not_in)) = not_in (brought b h done x (assigned_on b h w x) (all_mem _ x xs e m))
 
   sound : (c : Cause) (p : Part) (earlier : List Part) → tested room k s c p earlier ≡ true → Fault room s c p earlier → ⊥
-  sound TableFull p earlier e f = both_ways _ (not-true _ e) f
-  sound NamesNothing p earlier e f = both_ways _ (not-true _ e) f
-  sound NoTerminal p earlier e f = both_ways _ (not-true _ e) f
-  sound AssignedTwice p earlier e f = both_ways _ f e
-  sound PhiOperands (phi b n φ) earlier e f = both_ways _ (not-true _ e) f
   sound EdgeBack (terminal b t) earlier e (h, w, (c, l, m, not_in)) =
       let held = all_mem (λ d. leb b d || has d (held_at k b)) c (leads t) e m in grind (arith, nat_tests, has-mem, held_on b h w)
   sound UseBeforeDefinition (instruction b n before i) earlier e f = uses_sound b (done_before s b before) (reads i) e f
   sound UseBeforeDefinition (terminal b t) earlier e f = uses_sound b (done_before s b (draft_block s b).code) (asks t) e f
   sound UseBeforeDefinition (end b) earlier e f = uses_sound b (assigned_in (draft_block s b)) _ e f
-  sound c p earlier e f = f
+  sound c p earlier e f = grind arith
 
   -- ---- all parts, all causes
 

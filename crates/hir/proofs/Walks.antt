@@ -144,7 +144,8 @@ module _ (n : ℕ) (g : Graph) (inside : (a b : ℕ) → Mem b (g a) → b < n) 
     abbrev stepped : ℕ → Walk → Bool → Walk
     stepped b w entered = cond entered (noted a b w) (go b (enter b (noted a b w)))
 
-    edge_walked : (b : ℕ) → Mem b (g a) → (w : Walk) → Right w → n < suc d + trues w.entered → (c : Bool) → get_or w.entered b false ≡ c → Walked a (b ∷ []) w (stepped b w c)
+    edge_walked : (b : ℕ) → Mem b (g a) → (w : Walk) → Right w → n < suc d + trues w.entered → (c : Bool) → get_or w.entered b false ≡ c
+        → Walked a (b ∷ []) w (stepped b w c)
     edge_walked b m w r f true e = record {
       right = note_right a b w ra m r;
       grown = note_grew a b w;
@@ -190,7 +191,13 @@ module _ (n : ℕ) (g : Graph) (inside : (a b : ℕ) → Mem b (g a) → b < n) 
   module _ (some : 0 < n) where
     begun : Right (enter 0 blank)
     unfolding blank
-    begun = enter_right 0 blank ([], entry) (record { many = length-replicate n false; lists = length-replicate n []; reached = λ b e. absurd (both_ways _ (blank_reads n b false) e); leads = λ a b m. absurd (rw (blank_reads {A = List ℕ} n b []) at m) })
+    begun =
+        enter_right 0 blank ([], entry) (record {
+          many = length-replicate n false;
+          lists = length-replicate n [];
+          reached = λ b e. absurd (both_ways _ (blank_reads n b false) e);
+          leads = λ a b m. absurd (rw (blank_reads {A = List ℕ} n b []) at m);
+        })
 
     all_walked : Walked 0 (g 0) (enter 0 blank) (walked n g)
     unfolding blank

@@ -3,8 +3,7 @@ use Rattle.hir.proofs.Certificates.{Certificate, accepted, linked, refused, test
 use Rattle.hir.proofs.Members.{lacks}
 use Rattle.hir.proofs.OneRefusal.{cause_at}
 use Rattle.hir.proofs.seal.seal_examples.Goals as goal
-use Rattle.hir.specs.Examples.{back_to1, bad_fallthrough, bad_operand, entry_phi, no_blocks, one_side, open_block, parameter_again, reads_itself, refusal, stored_twice, two_bindings, two_entries, used_at_end}
-use Rattle.hir.specs.Examples.{entry_loop, good_fallthrough, loop, meeting, same_ways, stored_once, takes_itself, try_binding, unreached_phi}
+use Rattle.hir.specs.Examples.{back_to1, bad_fallthrough, bad_operand, entry_phi, no_blocks, one_side, open_block, parameter_again, reads_itself, refusal, stored_twice, two_bindings, two_entries, used_at_end, entry_loop, good_fallthrough, loop, meeting, same_ways, stored_once, takes_itself, try_binding, unreached_phi}
 use Rattle.hir.specs.Script.{Script}
 use Rattle.hir.specs.Graph.{along, entry}
 use Rattle.hir.specs.Seal.{Fault, FirstCause, Part, causes, further, parts, site_of}
