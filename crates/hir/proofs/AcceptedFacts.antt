@@ -8,11 +8,11 @@ use Rattle.hir.specs.Accepted.{Accepted, Forward, TakesEach}
 use Rattle.hir.specs.Graph.{Graph, Path, Reached, along, entry}
 use Rattle.hir.specs.Lists.{Mem, all, any, distinct, has, numbered}
 use Rattle.hir.specs.Script.{Phi, Script, Terminal}
-use Rattle.hir.specs.Seal.{Fault, Free, Part, SealAccepts, Unassigned, asks, draft_block, draft_graph, draft_walk, further, leads, names, parameter, parts, takes_from, terminal}
+use Rattle.hir.specs.Seal.{Fault, Part, SealAccepts, Unassigned, asks, draft_block, draft_graph, draft_walk, further, leads, names, parameter, parts, takes_from, terminal}
 use Rattle.std.proofs.lemmas.List.{nil_from_length}
 use Rattle.std.proofs.lemmas.Bool.{and_parts, cases_order, false_from_ne_true, leb-false, true≢false}
 use Rattle.table.specs.declared.refusal.Cause.{Cause}
-use Rattle.table.specs.declared.refusal.Cause.TheVariants.{AssignedTwice, TableFull, EdgeBack, NamesNothing, NoTerminal, PhiOperands, UseBeforeDefinition}
+use Rattle.table.specs.declared.refusal.Cause.TheVariants.{TableFull, EdgeBack, NamesNothing, NoTerminal, PhiOperands, UseBeforeDefinition}
 
 -- ---- blocks by their numbers
 
@@ -55,13 +55,10 @@ module _ (room : ℕ) (s : Script) (ok : SealAccepts room s) where
   abbrev g : Graph
   g = draft_graph s
 
-  free : (c : Cause) → Free room s c [] (parts s)
-  free TableFull = search ok
-  free c = search ok
-
   -- no cause applies at a part
   never : (c : Cause) (p : Part) → Mem p (parts s) → (earlier : List Part) × (Fault room s c p earlier → ⊥)
-  never c p m = free_at room s c [] (parts s) (free c) p m
+  never TableFull p m = free_at room s TableFull [] (parts s) (search ok) p m
+  never c p m = free_at room s c [] (parts s) (search ok) p m
 
   has_entry : 0 < length s.blocks
   has_entry = grind (arith, never NoTerminal (further 0), mem_right (further 0) (numbered parameter 0 s.parameters), nil_from_length s.blocks)
@@ -120,7 +117,7 @@ module _ (room : ℕ) (s : Script) (ok : SealAccepts room s) where
         entry = has_entry;
         ended = has_terminal;
         within = inside;
-        assigned_once = assigned_once room s (free AssignedTwice);
+        assigned_once = assigned_once room s (search ok);
         no_entry_phi = entry_clean;
         phis = takes_each;
         code_used = λ b h w before i after e x m.

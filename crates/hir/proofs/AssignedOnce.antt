@@ -42,11 +42,6 @@ module _ (x : ℕ) where
       let ih = blocks_at (suc b) (p + length B.phis) (i + length B.code) Bs in
       grind (arith, total-append at, count-append x)
 
-  parts_at : (s : Script) → total at (parts s) ≡ count x s.parameters + total (λ B. count x (assigned_in B)) s.blocks
-  parts_at s =
-      let own = rw (map-id s.parameters) at (numbered_at parameter (λ y. y) (λ n y. refl) 0 s.parameters) in
-      omega (arith, total-append at (numbered parameter 0 s.parameters) (block_parts 0 0 0 s.blocks), own, blocks_at 0 0 0 s.blocks)
-
   -- with what is earlier, since at each part all assignments up to it are distinct
   once : (room : ℕ) (s : Script) (e ps : List Part) → total at e ≤ 1 → Free room s AssignedTwice e ps → total at ps + total at e ≤ 1
   once room s e [] l f = omega arith
@@ -54,4 +49,7 @@ module _ (x : ℕ) where
       grind (arith, distinct-count x (flat_map assigned_by (p ∷ e)), true_from_ne_false, count-flat x assigned_by (p ∷ e), once room s (p ∷ e) ps)
 
 pub assigned_once : (room : ℕ) (s : Script) → Free room s AssignedTwice [] (parts s) → (x : ℕ) → count x s.parameters + total (λ B. count x (assigned_in B)) s.blocks ≤ 1
-assigned_once room s f x = omega (arith, once x room s [] (parts s) (omega arith) f, parts_at x s)
+assigned_once room s f x =
+    let own = rw (map-id s.parameters) at (numbered_at x parameter (λ y. y) (λ n y. refl) 0 s.parameters) in
+    let all = total-append (at x) (numbered parameter 0 s.parameters) (block_parts 0 0 0 s.blocks) in
+    omega (arith, once x room s [] (parts s) (omega arith) f, own, all, blocks_at x 0 0 0 s.blocks)
