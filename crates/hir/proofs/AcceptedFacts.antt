@@ -1,7 +1,7 @@
 -- What it says of a script that the seal accepts it.
 use Rattle.std.proofs.Common.{◌≡◌, ℕ, ◌<◌, Bool, true, false, eqb, leb, List, [], ◌∷◌, map, length, get_or, Some, Option, sym, refl, subst, inl, inr, arith}
 use Rattle.hir.proofs.AssignedOnce.{assigned_once}
-use Rattle.hir.proofs.Members.{all_has, mem-flat, mem_left, mem_right, member}
+use Rattle.hir.proofs.Members.{all_has, mem-flat, mem_left, mem_right, not_missing}
 use Rattle.hir.proofs.Standing.{free_at, inhabited, stands}
 use Rattle.hir.proofs.Walks.{Entered, found_precedes, precedes_found, reached_entered}
 use Rattle.hir.specs.Accepted.{Accepted, Forward, TakesEach}
@@ -104,12 +104,12 @@ module _ (room : ℕ) (s : Script) (ok : SealAccepts room s) where
   -- ---- uses
 
   assigned : (b : ℕ) (xs : List ℕ) (by : List ℕ → List ℕ) → (Unassigned s b xs by → ⊥) → (h : List ℕ) → Path g (b ∷ h) → (x : ℕ) → Mem x xs → Mem x (by h)
-  assigned b xs by f h w x m = elim (member x (by h)) [ inl k ↦ k | inr k ↦ absurd (f (h, w, (x, m, k))) ]
+  assigned b xs by f h w x m = not_missing x (by h) (λ k. f (h, w, (x, m, k)))
 
   returns_to : (b : ℕ) (h : List ℕ) → Path g (b ∷ h) → (c : ℕ) → Mem c (g b) → c < b → Mem c (b ∷ h)
   returns_to b h w c m l =
       let f = never EdgeBack (terminal b (draft_block s b).terminal) (stands s b (edge_inside s b c m)).2 in
-      elim (member c (b ∷ h)) [ inl k ↦ k | inr k ↦ absurd (f.1 (h, w, (c, l, m, k))) ]
+      not_missing c (b ∷ h) (λ k. f.1 (h, w, (c, l, m, k)))
 
   pub accepted : Accepted s
   accepted =

@@ -182,7 +182,7 @@ module _ (n : ℕ) (g : Graph) (inside : (a b : ℕ) → Mem b (g a) → b < n) 
 
   -- ---- all of it
 
-  blank : Walk
+  abbrev blank : Walk
   blank = record { entered = replicate n false; predecessors = replicate n [] }
 
   blank_reads : {A : Type 0} (k b : ℕ) (x : A) → get_or (replicate k x) b x ≡ x
@@ -190,7 +190,6 @@ module _ (n : ℕ) (g : Graph) (inside : (a b : ℕ) → Mem b (g a) → b < n) 
 
   module _ (some : 0 < n) where
     begun : Right (enter 0 blank)
-    unfolding blank
     begun =
         enter_right 0 blank ([], entry) (record {
           many = length-replicate n false;
@@ -200,17 +199,14 @@ module _ (n : ℕ) (g : Graph) (inside : (a b : ℕ) → Mem b (g a) → b < n) 
         })
 
     all_walked : Walked 0 (g 0) (enter 0 blank) (walked n g)
-    unfolding blank
     all_walked =
         let t = set_trues (replicate n false) 0 (rw (length-replicate n false) some) (blank_reads n 0 false) in
         walk_walked n 0 (enter 0 blank) begun ([], entry) (omega arith)
 
     every_done : (c : ℕ) → Entered (walked n g) c → Done (walked n g) c
-    unfolding blank
     every_done c e = grind (arith, all_walked.since c e, set_only (replicate n false) 0 c, blank_reads n c false, all_walked.done)
 
     pub reached_entered : (b : ℕ) → Reached g b → Entered (walked n g) b
-    unfolding blank
     reached_entered b (h, entry) = all_walked.grown.entered 0 (get_or-set_same (replicate n false) 0 true false (rw (length-replicate n false) some))
     reached_entered b (h, along {a = a} {b = c} {h = k} w m) = (every_done a (reached_entered a (k, w)) b m).1
 
