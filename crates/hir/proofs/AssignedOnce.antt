@@ -42,7 +42,7 @@ module _ (x : ℕ) where
       let ih = blocks_at (suc b) (p + length B.phis) (i + length B.code) Bs in
       grind (arith, total-append at, count-append x)
 
-  -- with what is earlier, since at each part all assignments up to it are distinct
+  -- ps and the parts before them assign x once at the most, since at each part all assignments so far are distinct
   once : (room : ℕ) (s : Script) (e ps : List Part) → total at e ≤ 1 → Free room s AssignedTwice e ps → total at ps + total at e ≤ 1
   once room s e [] l f = omega arith
   once room s e (p ∷ ps) l f =

@@ -76,7 +76,7 @@ module _ (n : ℕ) (g : Graph) (inside : (a b : ℕ) → Mem b (g a) → b < n) 
   abbrev Followed : Walk → ℕ → ℕ → Type 0
   Followed w a b = Mem a (found w b) × Entered w b
 
-  -- so have been all edges from a
+  -- all edges from a have been followed
   abbrev Done : Walk → ℕ → Type 0
   Done w a = (b : ℕ) → Mem b (g a) → Followed w a b
 
