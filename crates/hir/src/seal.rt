@@ -2,6 +2,7 @@ ghost use Rattle.hir.specs.Accepted.{Acceptance};
 ghost use Rattle.hir.specs.Examples.{OneRefusal, SealExamples};
 
 // Their contracts are theorems about the definitions; they compute nothing.
+#[tactic(auto, using(crate::proofs::OneRefusal::one_refusal))]
 pub fn one_refusal()
     ensures { OneRefusal }
 {}
@@ -10,6 +11,7 @@ pub fn seal_examples()
     ensures { SealExamples }
 {}
 
+#[tactic(auto, using(crate::proofs::AcceptedFacts::accepted))]
 pub fn acceptance()
     ensures { Acceptance }
 {}
