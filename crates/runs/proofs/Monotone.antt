@@ -31,47 +31,16 @@ bind_first_below {A} (Some x) q f b y e = subst (λ (r : Option A). bind r f ≡
 
 module _ (h g : List ℕ → Option Float) (more : (t : List ℕ) → Below (h t) (g t)) where
   equal_below : (x y : Primitive) → Below (is_loosely_equal h x y) (is_loosely_equal g x y)
-  equal_below null y b e = e
-  equal_below undefined y b e = e
-  equal_below (boolean a) null b e = e
-  equal_below (boolean a) undefined b e = e
-  equal_below (boolean a) (boolean c) b e = e
-  equal_below (boolean a) (number y) b e = e
   equal_below (boolean a) (string t) b e = mapped_below _ (h t) (g t) (more t) b e
-  equal_below (number x) null b e = e
-  equal_below (number x) undefined b e = e
-  equal_below (number x) (boolean c) b e = e
-  equal_below (number x) (number y) b e = e
   equal_below (number x) (string t) b e = mapped_below _ (h t) (g t) (more t) b e
-  equal_below (string t) null b e = e
-  equal_below (string t) undefined b e = e
   equal_below (string t) (boolean c) b e = mapped_below _ (h t) (g t) (more t) b e
   equal_below (string t) (number y) b e = mapped_below _ (h t) (g t) (more t) b e
-  equal_below (string t) (string u) b e = e
+  equal_below x y b e = e
 
   binary_below : (o : BinaryOperator) (x y : Primitive) → Below (binary_fold h o x y) (binary_fold g o x y)
-  binary_below Addition x y v e = e
-  binary_below Subtraction x y v e = e
-  binary_below Multiplication x y v e = e
-  binary_below Division x y v e = e
-  binary_below Remainder x y v e = e
-  binary_below Exponential x y v e = e
-  binary_below BitwiseOR x y v e = e
-  binary_below BitwiseAnd x y v e = e
-  binary_below BitwiseXOR x y v e = e
-  binary_below ShiftLeft x y v e = e
-  binary_below ShiftRight x y v e = e
-  binary_below ShiftRightZeroFill x y v e = e
-  binary_below LessThan x y v e = e
-  binary_below LessEqualThan x y v e = e
-  binary_below GreaterThan x y v e = e
-  binary_below GreaterEqualThan x y v e = e
-  binary_below StrictEquality x y v e = e
-  binary_below StrictInequality x y v e = e
   binary_below Equality x y v e = mapped_below _ _ _ (equal_below x y) v e
   binary_below Inequality x y v e = mapped_below _ _ _ (equal_below x y) v e
-  binary_below In x y v e = e
-  binary_below Instanceof x y v e = e
+  binary_below o x y v e = e
 
 first_below : (vs : List (Option Primitive)) (f g : Primitive → Option Primitive) → ((x : Primitive) → Below (f x) (g x)) → Below (at_first vs f) (at_first vs g)
 first_below [] f g b v e = e
@@ -86,9 +55,8 @@ both_below (x ∷ vs) f g b v e = bind_below x _ _ (λ y. first_below vs (f y) (
 -- place by place
 abbrev pub AllBelow : {A : Type 0} → List (Option A) → List (Option A) → Type 0
 AllBelow [] [] = Unit {0}
-AllBelow [] (q ∷ qs) = ⊥
-AllBelow (p ∷ ps) [] = ⊥
 AllBelow (p ∷ ps) (q ∷ qs) = Below p q × AllBelow ps qs
+AllBelow ps qs = ⊥
 
 same_all : (ps : List (Option (List ℕ))) → AllBelow ps ps
 same_all [] = tt
@@ -97,17 +65,15 @@ same_all (p ∷ ps) = ((λ x e. e), same_all ps)
 alternately_below : (qs ps rs : List (Option (List ℕ))) → AllBelow ps rs → AllBelow (alternately qs ps) (alternately qs rs)
 alternately_below [] ps rs b = b
 alternately_below (q ∷ qs) [] [] b = same_all (q ∷ qs)
-alternately_below (q ∷ qs) [] (r ∷ rs) b = absurd b
-alternately_below (q ∷ qs) (p ∷ ps) [] b = absurd b
 alternately_below (q ∷ qs) (p ∷ ps) (r ∷ rs) b = ((λ x e. e), (b.0, alternately_below qs ps rs b.1))
+alternately_below (q ∷ qs) ps rs b = absurd b
 
 join_below : (ps qs : List (Option (List ℕ))) → AllBelow ps qs → Below (join_all ps) (join_all qs)
 join_below [] [] b t e = e
-join_below [] (q ∷ qs) b t e = absurd b
-join_below (p ∷ ps) [] b t e = absurd b
 join_below (None ∷ ps) (q ∷ qs) b t e = cc
 join_below (Some u ∷ ps) (q ∷ qs) b t e =
     subst (λ (r : Option (List ℕ)). join_all (r ∷ qs) ≡ Some t) (sym (b.0 u refl)) (mapped_below _ (join_all ps) (join_all qs) (join_below ps qs b.1) t e)
+join_below ps qs b t e = absurd b
 
 length_below : (ps qs : List (Option (List ℕ))) → AllBelow ps qs → length ps ≡ length qs
 length_below [] [] b = refl
@@ -147,56 +113,31 @@ module _ (c d : Conversions) (w : Within c d) where
   pieces_below (v ∷ vs) = (bind_below v _ _ piece_below, pieces_below vs)
 
   pub fold_below : (texts : List (List ℕ)) (i : Instruction) (vs : List (Option Primitive)) → Below (fold c texts i vs) (fold d texts i vs)
-  fold_below texts (load_local x y s) vs v e = e
-  fold_below texts (store_local x p k y s) vs v e = e
-  fold_below texts (primitive x l s) vs v e = e
   fold_below texts (binary x o y z s) vs v e = both_below vs _ _ (binary_below c.number_of d.number_of w.numbers o) v e
-  fold_below texts (unary x o y s) vs v e = e
-  fold_below texts (property_store x o p u s) vs v e = e
-  fold_below texts (property_load x o p s) vs v e = e
-  fold_below texts (computed_store x o p u s) vs v e = e
-  fold_below texts (computed_load x o p s) vs v e = e
-  fold_below texts (load_global x b s) vs v e = e
   fold_below texts (template x ys qs s) vs v e = mapped_below _ _ _ (template_below (cooked_texts texts qs) _ _ (pieces_below vs)) v e
-  fold_below texts (prefix_update x p o y s) vs v e = e
-  fold_below texts (postfix_update x p o y s) vs v e = e
-  fold_below texts (start_memoize x m ds i s) vs v e = e
-  fold_below texts (opaque k ys xs) vs v e = e
+  fold_below texts i vs v e = e
 
 -- ---- values
 
 firsts_below : (us vs : List (Option Primitive)) (f : Primitive → Option Primitive) → AllBelow us vs → Below (at_first us f) (at_first vs f)
 firsts_below [] [] f b v e = e
-firsts_below [] (q ∷ qs) f b v e = absurd b
-firsts_below (p ∷ ps) [] f b v e = absurd b
 firsts_below (p ∷ ps) (q ∷ qs) f b v e = bind_first_below p q f b.0 v e
+firsts_below us vs f b v e = absurd b
 
 boths_below : (us vs : List (Option Primitive)) (f : Primitive → Primitive → Option Primitive) → AllBelow us vs → Below (at_both us f) (at_both vs f)
 boths_below [] [] f b v e = e
-boths_below [] (q ∷ qs) f b v e = absurd b
-boths_below (p ∷ ps) [] f b v e = absurd b
 boths_below (p ∷ ps) (q ∷ qs) f b v e =
     bind_first_below p q (λ x. at_first qs (f x)) b.0 v (bind_below p (λ x. at_first ps (f x)) (λ x. at_first qs (f x)) (λ x. firsts_below ps qs (f x) b.1) v e)
+boths_below us vs f b v e = absurd b
 
 mapped_all : (f : Primitive → Option (List ℕ)) (us vs : List (Option Primitive)) → AllBelow us vs → AllBelow (map (λ v. bind v f) us) (map (λ v. bind v f) vs)
 mapped_all f [] [] b = tt
-mapped_all f [] (q ∷ qs) b = absurd b
-mapped_all f (p ∷ ps) [] b = absurd b
 mapped_all f (p ∷ ps) (q ∷ qs) b = (bind_first_below p q f b.0, mapped_all f ps qs b.1)
+mapped_all f us vs b = absurd b
 
 pub values_below : (c : Conversions) (texts : List (List ℕ)) (i : Instruction) (us vs : List (Option Primitive)) → AllBelow us vs → Below (fold c texts i us) (fold c texts i vs)
-values_below c texts (load_local x y s) us vs b v e = e
-values_below c texts (store_local x p k y s) us vs b v e = e
-values_below c texts (primitive x l s) us vs b v e = e
 values_below c texts (binary x o y z s) us vs b v e = boths_below us vs _ b v e
 values_below c texts (unary x o y s) us vs b v e = firsts_below us vs _ b v e
-values_below c texts (property_store x o p u s) us vs b v e = e
 values_below c texts (property_load x o p s) us vs b v e = firsts_below us vs _ b v e
-values_below c texts (computed_store x o p u s) us vs b v e = e
-values_below c texts (computed_load x o p s) us vs b v e = e
-values_below c texts (load_global x g s) us vs b v e = e
 values_below c texts (template x ys qs s) us vs b v e = mapped_below _ _ _ (template_below (cooked_texts texts qs) _ _ (mapped_all (piece_text c) us vs b)) v e
-values_below c texts (prefix_update x p o y s) us vs b v e = e
-values_below c texts (postfix_update x p o y s) us vs b v e = e
-values_below c texts (start_memoize x m ds i s) us vs b v e = e
-values_below c texts (opaque k ys xs) us vs b v e = e
+values_below c texts i us vs b v e = e
