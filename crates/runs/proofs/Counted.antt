@@ -47,15 +47,12 @@ module _ (room : Room) (n b k : ℕ) (B : Body) (c : Counted B) where
   recount j = ap (λ (m : ℕ). m + B.turned_ifs) (code_same j) ∙ c.all
 
   folded_counted : (x : ℕ) (s : Option Span) (v : Primitive) → Counted (folded_to room n b k x s v B).body
-  folded_counted x s value.null = record { all = recount _ }
-  folded_counted x s value.undefined = record { all = recount _ }
-  folded_counted x s (value.boolean d) = record { all = recount _ }
-  folded_counted x s (value.number f) = record { all = recount _ }
   folded_counted x s (value.string t) = by (fits room B.texts t)
     where
       by : (d : Bool) → Counted (cond d (going_on (settled_as b k x s (text (length B.texts)) (with_text t B))) (record { body = B; stop = Some n })).body
       by true = record { all = recount _ }
       by false = c
+  folded_counted x s v = record { all = recount _ }
 
   applied_counted : (e : Evaluation) → Counted (applied room n b k e B).body
   applied_counted left = c

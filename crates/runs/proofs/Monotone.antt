@@ -3,11 +3,11 @@ use Rattle.std.proofs.Common.{◌≡◌, ℕ, suc, Bool, true, false, cond, ◌|
 use lib.Ieee.{Float}
 use Rattle.ecma.specs.Comparison.{is_loosely_equal}
 use Rattle.ecma.specs.declared.operators.BinaryOperator.{BinaryOperator}
-use Rattle.ecma.specs.declared.operators.BinaryOperator.TheVariants.{Addition, Subtraction, Multiplication, Division, Remainder, Exponential, BitwiseOR, BitwiseAnd, BitwiseXOR, ShiftLeft, ShiftRight, ShiftRightZeroFill, LessThan, LessEqualThan, GreaterThan, GreaterEqualThan, StrictEquality, StrictInequality, Equality, Inequality, In, Instanceof}
+use Rattle.ecma.specs.declared.operators.BinaryOperator.TheVariants.{Equality, Inequality}
 use Rattle.ecma.specs.Operators.{binary_fold}
 use Rattle.ecma.specs.Value.{Primitive, null, undefined, boolean, number, string}
 use Rattle.hir.specs.Script.{Instruction}
-use Rattle.hir.specs.Script.{load_local, store_local, primitive, binary, unary, property_store, property_load, computed_store, computed_load, load_global, template, prefix_update, postfix_update, start_memoize, opaque}
+use Rattle.hir.specs.Script.{binary, unary, property_load, template}
 use Rattle.runs.specs.Folds.{Conversions, Within, alternately, at_both, at_first, bind, cooked_texts, fold, is_empty, join_all, piece_text, template_fold}
 use Rattle.std.specs.Option.{option_map}
 

@@ -13,9 +13,8 @@ pub record NarrowStep (i j : Instruction) : Type 0 where
 
 abbrev pub NarrowCode : List Instruction → List Instruction → Type 0
 NarrowCode [] [] = Unit {0}
-NarrowCode [] (j ∷ js) = ⊥
-NarrowCode (i ∷ is) [] = ⊥
 NarrowCode (i ∷ is) (j ∷ js) = NarrowStep i j × NarrowCode is js
+NarrowCode is js = ⊥
 
 pub record NarrowBlock (B C : Block Terminal) : Type 0 where
   pub same_phis : C.phis ≡ B.phis
@@ -36,9 +35,8 @@ same_block B = record { same_phis = refl; code = same_code B.code; binding = ref
 
 code_writes : (is js : List Instruction) → NarrowCode is js → flat_map writes js ≡ flat_map writes is
 code_writes [] [] n = refl
-code_writes [] (j ∷ js) n = absurd n
-code_writes (i ∷ is) [] n = absurd n
 code_writes (i ∷ is) (j ∷ js) n = ap₂ (λ (u v : List ℕ). u ++ v) n.0.writing (code_writes is js n.1)
+code_writes is js n = absurd n
 
 -- an instruction of the narrower code, and the one in its place
 split_code : (is before : List Instruction) (j : Instruction) (after : List Instruction) → NarrowCode is (before ++ j ∷ after)

@@ -97,9 +97,8 @@ pub record Alike (w : World) (κ : Knowledge) (T T' : List (List ℕ)) (i j : In
 
 abbrev pub NearCode : World → Knowledge → (T T' : List (List ℕ)) → List Instruction → List Instruction → Type 0
 NearCode w κ T T' [] [] = Unit {0}
-NearCode w κ T T' [] (j ∷ js) = ⊥
-NearCode w κ T T' (i ∷ is) [] = ⊥
 NearCode w κ T T' (i ∷ is) (j ∷ js) = Alike w κ T T' i j × NearCode w κ T T' is js
+NearCode w κ T T' is js = ⊥
 
 pub record NearBlock (w : World) (κ : Knowledge) (T T' : List (List ℕ)) (B C : Block Terminal) : Type 0 where
   pub same_phis : C.phis ≡ B.phis

@@ -39,15 +39,12 @@ replaced_rest b k j Bs =
 
 module _ (room : Room) (n b k : ℕ) (B : Body) where
   folded_rest : (x : ℕ) (s : Option Span) (v : Primitive) → drop (suc k) (code_of (folded_to room n b k x s v B).body b) ≡ drop (suc k) (code_of B b)
-  folded_rest x s value.null = replaced_rest b k _ B.blocks
-  folded_rest x s value.undefined = replaced_rest b k _ B.blocks
-  folded_rest x s (value.boolean c) = replaced_rest b k _ B.blocks
-  folded_rest x s (value.number f) = replaced_rest b k _ B.blocks
   folded_rest x s (value.string t) = by (fits room B.texts t)
     where
       by : (c : Bool) → drop (suc k) (code_of (cond c (going_on (settled_as b k x s (text (length B.texts)) (with_text t B))) (record { body = B; stop = Some n })).body b) ≡ drop (suc k) (code_of B b)
       by true = replaced_rest b k _ B.blocks
       by false = refl
+  folded_rest x s v = replaced_rest b k _ B.blocks
 
   applied_rest : (e : Evaluation) → drop (suc k) (code_of (applied room n b k e B).body b) ≡ drop (suc k) (code_of B b)
   applied_rest left = refl
@@ -62,11 +59,8 @@ but_last (i ∷ []) = (i ∷ [], refl)
 but_last (i ∷ j ∷ is) = let r = but_last (j ∷ is) in (r.0, ap (λ (l : List Instruction). i ∷ l) r.1)
 
 evaluated_first : (g : BlockKind) (is : List Instruction) → (tail : List Instruction) × (is ≡ evaluated_code g is ++ tail)
-evaluated_first kind.Block is = ([], sym (append-nil is))
-evaluated_first kind.Value is = ([], sym (append-nil is))
-evaluated_first kind.Loop is = ([], sym (append-nil is))
 evaluated_first kind.Sequence is = but_last is
-evaluated_first kind.Catch is = ([], sym (append-nil is))
+evaluated_first g is = ([], sym (append-nil is))
 
 -- ---- steps, blocks, rounds
 

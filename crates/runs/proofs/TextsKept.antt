@@ -6,10 +6,10 @@ use Rattle.hir.specs.Body.{Constant, global_constant, primitive_constant, text_a
 use Rattle.hir.specs.Lists.{Mem, flat_map, listed}
 use Rattle.hir.specs.Places.{binding_name, binding_texts, literal_texts, property_texts, texts_named}
 use Rattle.hir.specs.Script.{Binding, Instruction, Literal, Property, Quasi}
-use Rattle.hir.specs.Script.{import_default, import_specifier, import_namespace, module_local, global}
-use Rattle.hir.specs.Script.{null, undefined, boolean, number, text}
+use Rattle.hir.specs.Script.{import_default}
+use Rattle.hir.specs.Script.{text}
 use Rattle.hir.specs.Script.{name, index}
-use Rattle.hir.specs.Script.{load_local, store_local, primitive, binary, unary, property_store, property_load, computed_store, computed_load, load_global, template, prefix_update, postfix_update, start_memoize, opaque}
+use Rattle.hir.specs.Script.{primitive, property_store, property_load, load_global, template}
 use Rattle.runs.proofs.Senses.{Knowledge, glob, prim, sense}
 use Rattle.runs.proofs.Yields.{prim_at, yields}
 use Rattle.runs.specs.Folds.{Conversions, always, at_first, bind, cooked_texts, fold, key_value, length_fold, literal_value, piece_text, template_fold}
@@ -36,11 +36,8 @@ constant_texts (primitive_constant l s) = literal_texts l
 constant_texts (global_constant b s) = binding_texts b
 
 literal_same : (T T' : List (List ℕ)) (l : Literal) → SameTexts T T' (literal_texts l) → literal_value T' l ≡ literal_value T l
-literal_same T T' null e = refl
-literal_same T T' undefined e = refl
-literal_same T T' (boolean b) e = refl
-literal_same T T' (number x) e = refl
 literal_same T T' (text t) e = ap (λ (u : List ℕ). Primitive.string u) (e t (inl refl))
+literal_same T T' l e = refl
 
 key_same : (T T' : List (List ℕ)) (p : Property) → SameTexts T T' (property_texts p) → key_value T' p ≡ key_value T p
 key_same T T' (name t) e = ap (λ (u : List ℕ). Primitive.string u) (e t (inl refl))
@@ -48,10 +45,7 @@ key_same T T' (index x) e = refl
 
 binding_same : (T T' : List (List ℕ)) (b : Binding) → SameTexts T T' (binding_texts b) → text_at T' (binding_name b) ≡ text_at T (binding_name b)
 binding_same T T' (import_default n m) e = e n (inl refl)
-binding_same T T' (import_specifier n m i) e = e n (inl refl)
-binding_same T T' (import_namespace n m) e = e n (inl refl)
-binding_same T T' (module_local n) e = e n (inl refl)
-binding_same T T' (global n) e = e n (inl refl)
+binding_same T T' b e = e (binding_name b) (inl refl)
 
 cooked_same : (T T' : List (List ℕ)) (qs : List Quasi) → SameTexts T T' (flat_map (λ q. q.raw ∷ listed q.cooked) qs) → cooked_texts T' qs ≡ cooked_texts T qs
 cooked_same T T' [] e = refl
@@ -72,52 +66,21 @@ sense_same T T' (global_constant b s) e = ap glob (binding_same T T' b e)
 
 module _ (c : Conversions) (T T' : List (List ℕ)) where
   fold_same : (i : Instruction) → SameTexts T T' (texts_named i) → (vs : List (Option Primitive)) → fold c T' i vs ≡ fold c T i vs
-  fold_same (load_local x y s) e vs = refl
-  fold_same (store_local x p k y s) e vs = refl
-  fold_same (primitive x l s) e vs = refl
-  fold_same (binary x o y z s) e vs = refl
-  fold_same (unary x o y s) e vs = refl
-  fold_same (property_store x o p v s) e vs = refl
   fold_same (property_load x o p s) e vs = ap (λ (u : Primitive). at_first vs (λ object. length_fold (Some object) (Some u))) (key_same T T' p e)
-  fold_same (computed_store x o p v s) e vs = refl
-  fold_same (computed_load x o p s) e vs = refl
-  fold_same (load_global x b s) e vs = refl
   fold_same (template x ys qs s) e vs = ap (λ (us : List (Option (List ℕ))). option_map Primitive.string (template_fold us (map (λ v. bind v (piece_text c)) vs))) (cooked_same T T' qs e)
-  fold_same (prefix_update x p o y s) e vs = refl
-  fold_same (postfix_update x p o y s) e vs = refl
-  fold_same (start_memoize x m ds i s) e vs = refl
-  fold_same (opaque k ys xs) e vs = refl
+  fold_same i e vs = refl
 
   pub yields_same : (κ : Knowledge) (i : Instruction) → SameTexts T T' (texts_named i) → yields c T' κ i ≡ yields c T κ i
-  yields_same κ (load_local x y s) e = refl
-  yields_same κ (store_local x p k y s) e = refl
   yields_same κ (primitive x l s) e = ap (λ (u : Primitive). Some (prim u) ∷ []) (literal_same T T' l e)
-  yields_same κ (binary x o y z s) e = refl
-  yields_same κ (unary x o y s) e = refl
-  yields_same κ (property_store x o p v s) e = refl
   yields_same κ (property_load x o p s) e = ap (λ (r : Option Primitive). option_map prim r ∷ []) (fold_same (property_load x o p s) e (map (prim_at κ) (o ∷ [])))
-  yields_same κ (computed_store x o p v s) e = refl
-  yields_same κ (computed_load x o p s) e = refl
   yields_same κ (load_global x b s) e = ap (λ (u : List ℕ). Some (glob u) ∷ []) (binding_same T T' b e)
   yields_same κ (template x ys qs s) e = ap (λ (r : Option Primitive). option_map prim r ∷ []) (fold_same (template x ys qs s) e (map (prim_at κ) ys))
-  yields_same κ (prefix_update x p o y s) e = refl
-  yields_same κ (postfix_update x p o y s) e = refl
-  yields_same κ (start_memoize x m ds i s) e = refl
-  yields_same κ (opaque k ys xs) e = refl
+  yields_same κ i e = refl
 
 pub meaning_same : (w : World) (T T' : List (List ℕ)) (i : Instruction) → SameTexts T T' (texts_named i) → (vs : List Value) → meaning w T' i vs ≡ meaning w T i vs
-meaning_same w T T' (load_local x y s) e vs = refl
-meaning_same w T T' (store_local x p k y s) e vs = refl
 meaning_same w T T' (primitive x l s) e vs = ap (λ (u : Primitive). computes (plain u ∷ [])) (literal_same T T' l e)
-meaning_same w T T' (binary x o y z s) e vs = refl
-meaning_same w T T' (unary x o y s) e vs = refl
 meaning_same w T T' (property_store x o p v s) e vs = ap (λ (u : Primitive). tells put (at vs 0 ∷ plain u ∷ at vs 1 ∷ [])) (key_same T T' p e)
 meaning_same w T T' (property_load x o p s) e vs = ap (λ (u : Primitive). getting (at vs 0) (plain u)) (key_same T T' p e)
-meaning_same w T T' (computed_store x o p v s) e vs = refl
-meaning_same w T T' (computed_load x o p s) e vs = refl
 meaning_same w T T' (load_global x b s) e vs = ap (λ (u : List ℕ). computes (w.globals u ∷ [])) (binding_same T T' b e)
 meaning_same w T T' (template x ys qs s) e vs = ap (λ (r : Option Primitive). or_tells r template_event vs) (fold_same (always w.conversions) T T' (template x ys qs s) e (map primitive_in vs))
-meaning_same w T T' (prefix_update x p o y s) e vs = refl
-meaning_same w T T' (postfix_update x p o y s) e vs = refl
-meaning_same w T T' (start_memoize x m ds i s) e vs = refl
-meaning_same w T T' (opaque k ys xs) e vs = refl
+meaning_same w T T' i e vs = refl

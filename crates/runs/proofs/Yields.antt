@@ -77,19 +77,14 @@ module _ (κ μ : Knowledge) (m : (x : ℕ) → Below (κ x) (μ x)) where
   pub yields_more : (c : Conversions) (T : List (List ℕ)) (i : Instruction) → AllBelow (yields c T κ i) (yields c T μ i)
   yields_more c T (load_local x y s) = (m y, tt)
   yields_more c T (store_local x p k y s) = (m y, (m y, tt))
-  yields_more c T (primitive x l s) = ((λ k e. e), tt)
   yields_more c T (binary x o y z s) = (fold_more c T (binary x o y z s) (y ∷ z ∷ []), tt)
   yields_more c T (unary x o y s) = (fold_more c T (unary x o y s) (y ∷ []), tt)
-  yields_more c T (property_store x o p v s) = ((λ k e. e), tt)
   yields_more c T (property_load x o p s) = (fold_more c T (property_load x o p s) (o ∷ []), tt)
-  yields_more c T (computed_store x o p v s) = ((λ k e. e), tt)
-  yields_more c T (computed_load x o p s) = ((λ k e. e), tt)
-  yields_more c T (load_global x b s) = ((λ k e. e), tt)
   yields_more c T (template x ys qs s) = (fold_more c T (template x ys qs s) ys, tt)
   yields_more c T (prefix_update x p o y s) = (new_more o y, (new_more o y, tt))
   yields_more c T (postfix_update x p o y s) = (old_more o y, (new_more o y, tt))
-  yields_more c T (start_memoize x n ds i s) = ((λ k e. e), tt)
   yields_more c T (opaque k ys xs) = none_more xs
+  yields_more c T i = ((λ k e. e), tt)
 
 -- ---- and a run computes it
 
@@ -175,14 +170,12 @@ module _ (w : World) (c : Conversions) (agree : Within c (always w.conversions))
   means T (primitive x l s) h = ((λ k e. (let is : prim (literal_value T l) ≡ k = cc in ap (in_world w) is)), tt)
   means T (binary x o y z s) h = told _ _ _ _ (folds T (binary x o y z s) (y ∷ z ∷ []) h)
   means T (unary x o y s) h = told _ _ _ _ (folds T (unary x o y s) (y ∷ []) h)
-  means T (property_store x o p v s) h = (refl, tt)
   means T (property_load x o p s) h =
       told _ _ _ _ (subst (λ (r : Option Primitive). Below (fold c T (property_load x o p s) (map (prim_at κ) (o ∷ []))) r) (getting_as T x o p s (value_of t o)) (folds T (property_load x o p s) (o ∷ []) h))
-  means T (computed_store x o p v s) h = (refl, tt)
   means T (computed_load x o p s) h = told None (length_fold (primitive_in (value_of t o)) (primitive_in (value_of t p))) _ _ (λ v e. cc)
   means T (load_global x b s) h = ((λ k e. (let is : glob (text_at T (binding_name b)) ≡ k = cc in ap (in_world w) is)), tt)
   means T (template x ys qs s) h = told _ _ _ _ (folds T (template x ys qs s) ys h)
   means T (prefix_update x p o y s) h = prefix_means _ _ _ _ (updates o y h)
   means T (postfix_update x p o y s) h = postfix_means _ _ (κ y) _ _ (updates o y h) (look y (h y (inl refl)))
-  means T (start_memoize x m ds i s) h = (refl, tt)
   means T (opaque k ys xs) h = nothing xs
+  means T i h = (refl, tt)
