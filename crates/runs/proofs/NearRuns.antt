@@ -8,7 +8,7 @@ use Rattle.hir.specs.Lists.{Mem, flat_map}
 use Rattle.hir.specs.Places.{reads, successors, terminal_reads, terminal_writes, writes}
 use Rattle.hir.specs.Script.{Block, Instruction, Operand, Phi, Terminal}
 use Rattle.runs.proofs.Senses.{Fitting, Has, Known, Knowledge, True, assigning_has, assigning_true, in_world, places, true_look, true_more}
-use Rattle.runs.proofs.ValidBodies.{Just, Justified, Valid, assigned_by, assigned_on, phi_places}
+use Rattle.runs.proofs.ValidBodies.{Just, Justified, Valid, assigned_by, assigned_on, flat_append, phi_places}
 use Rattle.runs.proofs.Yields.{Computes, Means, Nothing, means, yields}
 use Rattle.runs.specs.Folds.{Conversions, Within, always}
 use Rattle.runs.specs.Runs.{Answer, Assignment, Ending, Event, Exit, Flow, Meaning, State, Turn, Value, World, and_then, assigned, block_run, blocks_out, chooses, choosing, computes, continued, ends, executed, executed_all, exited, exited_by, finished, forks, gives, goes_on, halts, jumps, leaves, meaning, operand_from, performed, phi_value, phis_assigned, run_from, started, state, stops, taken, taking, tells, turn_of, turned_by, unfit, value_if, value_of}
@@ -20,13 +20,6 @@ use Rattle.std.proofs.lemmas.Bool.{ltb-true}
 abbrev Unknown : Knowledge → List ℕ → Type 0
 Unknown κ xs = (x : ℕ) → Mem x xs → κ x ≡ None
 
-abbrev IsNone : {A : Type 0} → Option A → Type 0
-IsNone None = Unit {0}
-IsNone (Some x) = ⊥
-
-pub none_some : {A B : Type 0} (o : Option A) (k : A) → o ≡ None → o ≡ Some k → B
-none_some o k e f = absurd (subst IsNone (sym e ∙ f) tt)
-
 -- a flow whose trace is true, and has xs if it goes on
 abbrev Fine : World → Knowledge → List ℕ → Flow → Type 0
 Fine w κ xs (goes_on s) = True w κ s.assignments × Has s.assignments xs
@@ -36,21 +29,17 @@ fine_fewer : (w : World) (κ : Knowledge) (xs ys : List ℕ) (f : Flow) → ((x 
 fine_fewer w κ xs ys (goes_on s) sub h = (h.0, (λ x m. h.1 x (sub x m)))
 fine_fewer w κ xs ys (ends e s) sub h = h
 
+-- what stands in the second of three lists is moved to the front
+moved : (x : ℕ) (P X A : List ℕ) → Mem x (P ++ X ++ A) → Mem x (X ++ (P ++ A))
+moved x P X A m = let k = mem_split x (P ++ X) A m in grind (arith, mem_split x P X, mem_left, mem_right)
+
 taking_fine : (w : World) (κ : Knowledge) (xs : List ℕ) (answers : List Answer) (t : List Assignment) (es : List Event) (D : List ℕ)
     → Unknown κ xs → True w κ t → Has t D → Fine w κ (xs ++ D) (taking xs answers t es)
 taking_fine w κ [] answers t es D u tr h = (tr, h)
 taking_fine w κ (x ∷ xs) [] t es D u tr h = tr
 taking_fine w κ (x ∷ xs) (gives v ∷ answers) t es D u tr h =
-    fine_fewer w κ (xs ++ x ∷ D) (x ∷ xs ++ D) (taking xs answers (assigned x v ∷ t) es) (λ y m. swap y m)
-    (taking_fine w κ xs answers (assigned x v ∷ t) es (x ∷ D) (λ y m. u y (inr m)) (true_more w κ x v t tr (λ k e. none_some (κ x) k (u x (inl refl)) e)) (λ y m. more y m))
-  where
-    swap : (y : ℕ) → Mem y (x ∷ xs ++ D) → Mem y (xs ++ x ∷ D)
-    swap y (inl e) = mem_right y xs (x ∷ D) (inl e)
-    swap y (inr m) = elim (mem_split y xs D m) [ inl k ↦ mem_left y xs (x ∷ D) k | inr k ↦ mem_right y xs (x ∷ D) (inr k) ]
-
-    more : (y : ℕ) → Mem y (x ∷ D) → Mem y (places (assigned x v ∷ t))
-    more y (inl e) = inl e
-    more y (inr m) = inr (h y m)
+    fine_fewer w κ (xs ++ x ∷ D) (x ∷ xs ++ D) (taking xs answers (assigned x v ∷ t) es) (λ y m. moved y (x ∷ []) xs D m)
+    (taking_fine w κ xs answers (assigned x v ∷ t) es (x ∷ D) (λ y m. u y (inr m)) (true_more w κ x v t tr (λ k e. cc (u x (inl refl)))) (λ y m. elim m [ inl e ↦ inl e | inr k ↦ inr (h y k) ]))
 taking_fine w κ (x ∷ xs) (chooses k ∷ answers) t es D u tr h = tr
 
 just_fits : (w : World) (κ : Knowledge) (xs : List ℕ) (ys : List (Option Known)) (vs : List Value) → Justified κ xs ys → Computes w ys vs → Fitting w κ xs vs
@@ -62,11 +51,7 @@ just_fits w κ (x ∷ xs) (y ∷ ys) (v ∷ vs) j c = ((λ k e. c.0 k (j.0 k e))
 just_unknown : (κ : Knowledge) (xs : List ℕ) (ys : List (Option Known)) → Justified κ xs ys → Nothing ys → Unknown κ xs
 just_unknown κ [] ys j n x m = absurd m
 just_unknown κ (z ∷ xs) [] j n x m = absurd j
-just_unknown κ (z ∷ xs) (y ∷ ys) j n x (inl e) = subst (λ (q : ℕ). κ q ≡ None) (sym e) (by (κ z) refl)
-  where
-    by : (o : Option Known) → κ z ≡ o → o ≡ None
-    by None h = refl
-    by (Some k) h = none_some y k n.0 (j.0 k h)
+just_unknown κ (z ∷ xs) (y ∷ ys) j n x (inl e) = rw e (grind (arith, j.0, n.0))
 just_unknown κ (z ∷ xs) (y ∷ ys) j n x (inr m) = just_unknown κ xs ys j.1 n.1 x m
 
 performed_fine : (w : World) (κ : Knowledge) (xs : List ℕ) (ys : List (Option Known)) (g : Meaning) (s : State) (D : List ℕ)
@@ -74,7 +59,7 @@ performed_fine : (w : World) (κ : Knowledge) (xs : List ℕ) (ys : List (Option
 performed_fine w κ xs ys (computes vs) s D j m tr h =
     let f = just_fits w κ xs ys vs j m in (
       assigning_true w κ xs vs s.assignments f tr,
-      (λ x k. assigning_has w κ xs vs s.assignments f x (elim (mem_split x xs D k) [ inl q ↦ inl q | inr q ↦ inr (h x q) ])),
+      (λ x k. assigning_has w κ xs vs s.assignments f x (grind (arith, mem_split x xs D k, h x))),
     )
 performed_fine w κ xs ys (tells e vs) s D j m tr h = taking_fine w κ xs s.answers s.assignments _ D (just_unknown κ xs ys j m) tr h
 
@@ -106,14 +91,6 @@ pub record NearBlock (w : World) (κ : Knowledge) (T T' : List (List ℕ)) (B C 
   pub binding : terminal_writes C.terminal ≡ terminal_writes B.terminal
   pub turning : (t : List Assignment) → True w κ t → Has t (terminal_reads B.terminal) → turn_of C.terminal (value_of t) ≡ turn_of B.terminal (value_of t)
 
-flat_last : (is : List Instruction) (i : Instruction) (x : ℕ) → Mem x (flat_map writes (is ++ i ∷ [])) → Mem x (flat_map writes is) ⊎ Mem x (writes i)
-flat_last [] i x m = elim (mem_split x (writes i) [] m) [ inl k ↦ inr k | inr k ↦ absurd k ]
-flat_last (j ∷ is) i x m =
-    elim (mem_split x (writes j) (flat_map writes (is ++ i ∷ [])) m) [
-      | inl k ↦ inl (mem_left x (writes j) (flat_map writes is) k)
-      | inr k ↦ elim (flat_last is i x k) [ inl q ↦ inl (mem_right x (writes j) (flat_map writes is) q) | inr q ↦ inr q ]
-    ]
-
 get-mem : (bs : List ℕ) (k : ℕ) → k < length bs → Mem (get_or bs k 0) bs
 get-mem [] k l = absurd (omega arith)
 get-mem (b ∷ bs) zero l = inl refl
@@ -121,11 +98,7 @@ get-mem (b ∷ bs) (suc k) l = inr (get-mem bs k (omega arith))
 
 mem-reverse : {A : Type 0} (a : A) (xs ys : List A) → Mem a (reverse_aux xs ys) → Mem a xs ⊎ Mem a ys
 mem-reverse a [] ys m = inr m
-mem-reverse a (x ∷ xs) ys m = elim (mem-reverse a xs (x ∷ ys) m) [ inl k ↦ inl (inr k) | inr k ↦ first k ]
-  where
-    first : Mem a (x ∷ ys) → Mem a (x ∷ xs) ⊎ Mem a ys
-    first (inl e) = inl (inl e)
-    first (inr k) = inr k
+mem-reverse a (x ∷ xs) ys m = let k = mem-reverse a xs (x ∷ ys) m in grind arith
 
 module _ (w : World) (c : Conversions) (agree : Within c (always w.conversions)) (κ : Knowledge) (T T' : List (List ℕ)) (ps : List ℕ) (Bs Cs : List (Block Terminal))
     (valid : Valid ps Bs) (just : Just c T κ ps Bs) (near : (b : ℕ) → NearBlock w κ T T' (block_at Bs b) (block_at Cs b)) where
@@ -154,18 +127,8 @@ module _ (w : World) (c : Conversions) (agree : Within c (always w.conversions))
         more : (x : ℕ) → Mem x (assigned_by ps Bs b (before ++ i ∷ []) h) → Mem x (writes i ++ assigned_by ps Bs b before h)
         more x m =
             let P = phi_places (block_at Bs b) in
-            let W = flat_map writes before in
-            let A = assigned_on ps Bs h in
-            elim (mem_split x (P ++ flat_map writes (before ++ i ∷ [])) A m) [
-              | inl k ↦ elim (mem_split x P (flat_map writes (before ++ i ∷ [])) k) [
-                | inl q ↦ mem_right x (writes i) (P ++ W ++ A) (mem_left x (P ++ W) A (mem_left x P W q))
-                | inr q ↦ elim (flat_last before i x q) [
-                  | inl r ↦ mem_right x (writes i) (P ++ W ++ A) (mem_left x (P ++ W) A (mem_right x P W r))
-                  | inr r ↦ mem_left x (writes i) (P ++ W ++ A) r
-                ]
-              ]
-              | inr k ↦ mem_right x (writes i) (P ++ W ++ A) (mem_right x (P ++ W) A k)
-            ]
+            moved x (P ++ flat_map writes before) (writes i) (assigned_on ps Bs h)
+            (rw (append_assoc P (flat_map writes before) (writes i), ← append-nil (writes i), ← flat_append writes before (i ∷ [])) m)
 
         on_flow : (f : Flow) → Fine w κ (writes i ++ assigned_by ps Bs b before h) f
             → ((u : State) → True w κ u.assignments → Has u.assignments (assigned_by ps Bs b (before ++ i ∷ []) h)
@@ -209,23 +172,13 @@ module _ (w : World) (c : Conversions) (agree : Within c (always w.conversions))
         let on = on_flow flow fine in
         (ap (λ (xs : List ℕ). turned_by u (taking xs s.answers s.assignments s.events)) e ∙ on.0, on.1)
       where
-        all : (x : ℕ) → Mem x (assigned_on ps Bs (b ∷ h)) → Mem x (terminal_writes (block_at Bs b).terminal ++ assigned_by ps Bs b (block_at Bs b).code h)
-        all x m =
-            let B = block_at Bs b in
-            let PW = phi_places B ++ flat_map writes B.code in
-            let X = terminal_writes B.terminal in
-            let A = assigned_on ps Bs h in
-            elim (mem_split x (PW ++ X) A m) [
-              | inl k ↦ elim (mem_split x PW X k) [ inl q ↦ mem_right x X (PW ++ A) (mem_left x PW A q) | inr q ↦ mem_left x X (PW ++ A) q ]
-              | inr k ↦ mem_right x X (PW ++ A) (mem_right x PW A k)
-            ]
-
         on_flow : (f : Flow) → Fine w κ (terminal_writes (block_at Bs b).terminal ++ assigned_by ps Bs b (block_at Bs b).code h) f
             → (turned_by u f ≡ turned_by (block_at Bs b).terminal f) × Out (turned_by (block_at Bs b).terminal f)
         on_flow (goes_on v) fine =
             let t = (block_at Bs b).terminal in (
               ap (λ (n : Turn). taken n v) (turns v.assignments fine.0 (λ x m. fine.1 x (mem_right x (terminal_writes t) _ (valid.terminal_used b h path x m)))),
-              taken_out (turn_of t (value_of v.assignments)) (turn_leads t (value_of v.assignments)) v fine.0 (λ x m. fine.1 x (all x m)),
+              taken_out (turn_of t (value_of v.assignments)) (turn_leads t (value_of v.assignments)) v fine.0
+                  (λ x m. fine.1 x (moved x (phi_places (block_at Bs b) ++ flat_map writes (block_at Bs b).code) (terminal_writes t) (assigned_on ps Bs h) m)),
             )
         on_flow (ends e v) fine = (refl, fine)
 
@@ -236,7 +189,7 @@ module _ (w : World) (c : Conversions) (agree : Within c (always w.conversions))
   coming_from (a ∷ h) = Some a
 
   operand_mem : (a : ℕ) (os : List Operand) (y : ℕ) → operand_from a os ≡ Some y → (o : Operand) × Mem o os × (o.value ≡ y)
-  operand_mem a [] y e = none_some None y refl e
+  operand_mem a [] y e = cc
   operand_mem a (o ∷ os) y e = by (eqb o.block a) e (λ f. operand_mem a os y f)
     where
       by : (d : Bool) → cond d (Some o.value) (operand_from a os) ≡ Some y → (operand_from a os ≡ Some y → (p : Operand) × Mem p os × (p.value ≡ y)) → (p : Operand) × Mem p (o ∷ os) × (p.value ≡ y)
@@ -278,11 +231,7 @@ module _ (w : World) (c : Conversions) (agree : Within c (always w.conversions))
           → Mem x (places (phis_assigned (coming_from h) (block_at Bs b).phis s.assignments))
       first x m fit =
           let P = phi_places (block_at Bs b) in
-          assigning_has w κ P _ s.assignments fit x
-          (elim (mem_split x (P ++ []) (assigned_on ps Bs h) m) [
-            | inl k ↦ elim (mem_split x P [] k) [ inl q ↦ inl q | inr q ↦ absurd q ]
-            | inr k ↦ inr (hs x k)
-          ])
+          assigning_has w κ P _ s.assignments fit x (grind (arith, mem_split x P (assigned_on ps Bs h) (rw append-nil at m), hs x))
 
       on_flow : (f : Flow) → Fine w κ (assigned_by ps Bs b (block_at Bs b).code h) f
           → (exited_by (block_at Cs b).terminal f ≡ exited_by (block_at Bs b).terminal f) × Out b h p (exited_by (block_at Bs b).terminal f)
@@ -292,7 +241,7 @@ module _ (w : World) (c : Conversions) (agree : Within c (always w.conversions))
   -- ---- runs
 
   finished_true : (e : Ending) (l : Option ℕ) (s : State) → True w κ s.assignments → True w κ (finished e l s).assignments
-  finished_true e l s tr a m k h = tr a (elim (mem-reverse a s.assignments [] m) [ inl q ↦ q | inr q ↦ absurd q ]) k h
+  finished_true e l s tr a m k h = tr a (grind (arith, mem-reverse a s.assignments [] m)) k h
 
   run_near : (n b : ℕ) (h : List ℕ) → Path (graph_of Bs) (b ∷ h) → (s : State) → True w κ s.assignments → Has s.assignments (assigned_on ps Bs h)
       → (run_from w T' Cs n (coming_from h) b s ≡ run_from w T Bs n (coming_from h) b s) × True w κ (run_from w T Bs n (coming_from h) b s).assignments

@@ -1,5 +1,5 @@
 -- Texts are only added behind the others, so what names the texts that were there means what it meant.
-use Rattle.std.proofs.Common.{◌≡◌, ℕ, zero, suc, ◌<◌, List, [], ◌∷◌, ◌++◌, map, length, Some, None, Option, refl, ap, inl, inr, arith}
+use Rattle.std.proofs.Common.{◌≡◌, ℕ, List, [], ◌∷◌, map, Some, None, Option, refl, ap, inl, inr}
 use Rattle.ecma.specs.Value.{Primitive}
 use Rattle.hir.proofs.Members.{mem_left, mem_right}
 use Rattle.hir.specs.Body.{Constant, global_constant, primitive_constant, text_at}
@@ -20,14 +20,7 @@ use Rattle.std.specs.Option.{option_map}
 abbrev pub SameTexts : List (List ℕ) → List (List ℕ) → List ℕ → Type 0
 SameTexts T T' ts = (t : ℕ) → Mem t ts → text_at T' t ≡ text_at T t
 
-pub appended : (T U : List (List ℕ)) (t : ℕ) → t < length T → text_at (T ++ U) t ≡ text_at T t
-appended [] U t l = absurd (omega arith)
-appended (x ∷ T) U zero l = refl
-appended (x ∷ T) U (suc t) l = appended T U t (omega arith)
-
-pub added_text : (T : List (List ℕ)) (x : List ℕ) → text_at (T ++ x ∷ []) (length T) ≡ x
-added_text [] x = refl
-added_text (y ∷ T) x = added_text T x
+-- (Texts that were there: `get_or_append_left` of std; the one that was added: `get_or_push`.)
 
 -- ---- what instructions hold
 
