@@ -1,5 +1,6 @@
 -- The Ifs of all blocks and those that were turned are together those that were sealed.
-use Rattle.std.proofs.Common.{◌≡◌, ℕ, zero, suc, ◌+◌, ◌≤◌, Bool, true, false, cond, eqb, List, [], ◌∷◌, length, get_or, set, is_some, Some, None, Option, refl, ap, ◌∙◌, add-zero, arith}
+use Rattle.std.proofs.lemmas.Bool.{cond_both}
+use Rattle.std.proofs.Common.{◌≡◌, ℕ, zero, suc, ◌+◌, ◌≤◌, eqb, List, [], ◌∷◌, length, get_or, set, is_some, Some, None, Option, refl, ◌∙◌, add-zero, arith}
 use Rattle.ecma.specs.Value.{Primitive}
 use Rattle.ecma.specs.Value as value
 use Rattle.hir.specs.Body.{Body, Test, block_at, count_ifs, graph_of, if_of, sealing}
@@ -7,11 +8,11 @@ use Rattle.hir.specs.declared.parts.Span.{Span}
 use Rattle.hir.specs.Graph.{walked}
 use Rattle.hir.specs.Lists.{mod_at, total}
 use Rattle.hir.specs.Renaming.{renamed_terminal}
-use Rattle.hir.specs.Script.{Block, Instruction, Script, Terminal, text}
+use Rattle.hir.specs.Script.{Block, Instruction, Script, Terminal}
 use Rattle.runs.proofs.RoundSteps.{round_keeps}
 use Rattle.runs.specs.Calls.{Calls, Last, Stage, asking, begun, rounded, tidying}
 use Rattle.runs.specs.Folds.{bind}
-use Rattle.runs.specs.Rounds.{Evaluation, HostMeaning, Room, applied, evaluation, fits, folded_to, going_on, goto_of, known, settled_as, standing, standing_from, turned, turned_to, with_code, with_terminal, with_text}
+use Rattle.runs.specs.Rounds.{Evaluation, HostMeaning, Room, applied, Progress, evaluation, fits, folded_to, goto_of, known, standing, standing_from, turned, turned_to, with_code, with_terminal}
 use Rattle.runs.specs.Rounds.{left, found, folded}
 use Rattle.runs.specs.Tidies.{Elimination, block_tidied, eliminated, pass, passes, pruned, pruned_all, tidy}
 use Rattle.std.specs.Option.{option_map}
@@ -25,33 +26,24 @@ pub record Counted (B : Body) : Type 0 where
 count_same : (f : Block Terminal → Block Terminal) → ((C : Block Terminal) → is_some (if_of (f C).terminal) ≡ is_some (if_of C.terminal))
     → (b : ℕ) (Bs : List (Block Terminal)) → count_ifs (mod_at f b Bs) ≡ count_ifs Bs
 count_same f e b [] = refl
-count_same f e zero (B ∷ Bs) = ap (λ (x : Bool). cond x 1 0 + count_ifs Bs) (e B)
-count_same f e (suc b) (B ∷ Bs) = ap (λ (m : ℕ). cond (is_some (if_of B.terminal)) 1 0 + m) (count_same f e b Bs)
+count_same f e zero (B ∷ Bs) = rw (e B)
+count_same f e (suc b) (B ∷ Bs) = rw (count_same f e b Bs)
 
 count-turned : (t : Terminal) → if_of t ≡ None → (b : ℕ) (Bs : List (Block Terminal)) (test : Test) → if_of (block_at Bs b).terminal ≡ Some test
     → suc (count_ifs (mod_at (with_terminal t) b Bs)) ≡ count_ifs Bs
 count-turned t n b [] test e = cc
 count-turned t n zero (B ∷ Bs) test e =
-    let l : cond {A = ℕ} (is_some (if_of t)) 1 0 ≡ 0 = ap (λ (o : Option Test). cond {A = ℕ} (is_some o) 1 0) n in
-    let r : cond {A = ℕ} (is_some (if_of B.terminal)) 1 0 ≡ 1 = ap (λ (o : Option Test). cond {A = ℕ} (is_some o) 1 0) e in
-    omega arith
+    rw (n, e) (omega arith)
 count-turned t n (suc b) (B ∷ Bs) test e = let ih = count-turned t n b Bs test e in omega arith
 
 -- ---- rounds
 
 module _ (room : Room) (n b k : ℕ) (B : Body) (c : Counted B) where
-  code_same : (j : Instruction) → count_ifs (mod_at (λ C. with_code (set C.code k j) C) b B.blocks) ≡ count_ifs B.blocks
-  code_same j = count_same (λ C. with_code (set C.code k j) C) (λ C. refl) b B.blocks
-
   recount : (j : Instruction) → count_ifs (mod_at (λ C. with_code (set C.code k j) C) b B.blocks) + B.turned_ifs ≡ B.sealed_ifs
-  recount j = ap (λ (m : ℕ). m + B.turned_ifs) (code_same j) ∙ c.all
+  recount j = rw (count_same (λ C. with_code (set C.code k j) C) (λ C. refl) b B.blocks) c.all
 
   folded_counted : (x : ℕ) (s : Option Span) (v : Primitive) → Counted (folded_to room n b k x s v B).body
-  folded_counted x s (value.string t) = by (fits room B.texts t)
-    where
-      by : (d : Bool) → Counted (cond d (going_on (settled_as b k x s (text (length B.texts)) (with_text t B))) (record { body = B; stop = Some n })).body
-      by true = record { all = recount _ }
-      by false = c
+  folded_counted x s (value.string t) = cond_both (fits room B.texts t) _ _ (λ (p : Progress). Counted p.body) (λ e. record { all = recount _ }) (λ e. c)
   folded_counted x s v = record { all = recount _ }
 
   applied_counted : (e : Evaluation) → Counted (applied room n b k e B).body
@@ -64,10 +56,7 @@ turned_counted b B c = by (if_of (block_at B.blocks b).terminal) refl
   where
     known_counted : (test : Test) → if_of (block_at B.blocks b).terminal ≡ Some test → (v : Option Primitive) → Counted (turned_to b (option_map (goto_of test) v) B)
     known_counted test e None = c
-    known_counted test e (Some v) =
-        let less = count-turned (goto_of test v) refl b B.blocks test e in
-        let before = c.all in
-        record { all = omega arith }
+    known_counted test e (Some v) = record { all = omega (arith, count-turned (goto_of test v) refl b B.blocks test e) }
 
     by : (o : Option Test) → if_of (block_at B.blocks b).terminal ≡ o → Counted (turned_to b (bind o (λ test. option_map (goto_of test) (known B test.test))) B)
     by None e = c
@@ -88,12 +77,9 @@ pass_count (b ∷ bs) e = pass_count bs (block_tidied b e) ∙ count_same _ (λ 
 
 passes_count : (most : ℕ) (bs : List ℕ) (e : Elimination) → count_ifs (passes most bs e).blocks ≡ count_ifs e.blocks
 passes_count zero bs e = refl
-passes_count (suc most) bs e = by (eqb (length (pass bs e).rewrites) (length e.rewrites)) (passes_count most bs (pass bs e))
-  where
-    by : (c : Bool) → count_ifs (passes most bs (pass bs e)).blocks ≡ count_ifs (pass bs e).blocks
-        → count_ifs (cond c (pass bs e) (passes most bs (pass bs e))).blocks ≡ count_ifs e.blocks
-    by true h = pass_count bs e
-    by false h = h ∙ pass_count bs e
+passes_count (suc most) bs e =
+    cond_both (eqb (length (pass bs e).rewrites) (length e.rewrites)) _ _ (λ (r : Elimination). count_ifs r.blocks ≡ count_ifs e.blocks)
+    (λ h. pass_count bs e) (λ h. passes_count most bs (pass bs e) ∙ pass_count bs e)
 
 tidy_counted : (B : Body) → Counted B → Counted (tidy B)
 tidy_counted B c =
@@ -101,7 +87,7 @@ tidy_counted B c =
     let bs = standing_from 0 found.entered in
     let Bs = pruned_all bs found.predecessors B.blocks in
     let same : count_ifs (eliminated bs Bs) ≡ count_ifs B.blocks = passes_count (suc (total (λ C. length C.phis) Bs)) bs (record { blocks = Bs; rewrites = [] }) ∙ pruned_count bs found.predecessors B.blocks in
-    record { all = ap (λ (m : ℕ). m + B.turned_ifs) same ∙ c.all }
+    record { all = rw same c.all }
 
 -- ---- all calls
 

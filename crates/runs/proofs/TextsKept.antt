@@ -20,7 +20,7 @@ use Rattle.std.specs.Option.{option_map}
 abbrev pub SameTexts : List (List ℕ) → List (List ℕ) → List ℕ → Type 0
 SameTexts T T' ts = (t : ℕ) → Mem t ts → text_at T' t ≡ text_at T t
 
--- (Texts that were there: `get_or_append_left` of std; the one that was added: `get_or_push`.)
+-- That a text keeps its number where others are added is std's `get_or_append_left`, and the number of the one that is added `get_or_push`.
 
 -- ---- what instructions hold
 
