@@ -1,6 +1,6 @@
 -- What an instruction gives by what is known of what it reads, and that it gives just that in every run that is true to it.
 use lib.Ieee.{Float}
-use Rattle.std.proofs.Common.{◌≡◌, ℕ, List, [], ◌∷◌, map, Some, None, Option, refl, ap, ◌∙◌, subst, inl, inr}
+use Rattle.std.proofs.Common.{◌≡◌, ℕ, List, [], ◌∷◌, map, Some, None, Option, refl, ap, ◌∙◌, subst, inl, inr, arith}
 use Rattle.ecma.specs.declared.operators.UpdateOperator.{UpdateOperator}
 use Rattle.ecma.specs.Value.{Primitive}
 use Rattle.ecma.specs.Value as value
@@ -9,10 +9,11 @@ use Rattle.hir.specs.Lists.{Mem}
 use Rattle.hir.specs.Places.{binding_name, reads}
 use Rattle.hir.specs.Script.{Instruction}
 use Rattle.hir.specs.Script.{load_local, store_local, primitive, binary, unary, property_store, property_load, computed_store, computed_load, load_global, template, prefix_update, postfix_update, start_memoize, opaque}
-use Rattle.runs.proofs.Monotone.{AllBelow, Below, bind_below, bind_first_below, fold_below, mapped_below, values_below}
+use Rattle.runs.proofs.Monotone.{AllBelow, Below, bind_below, fold_below, mapped_below, maps_below, within_self}
 use Rattle.runs.proofs.Senses.{Has, Known, Knowledge, True, glob, in_world, prim, true_look}
 use Rattle.runs.specs.Folds.{Conversions, Within, always, bind, fold, key_value, length_fold, literal_value, updated}
 use Rattle.runs.specs.Runs.{Assignment, EventKind, Meaning, Value, World, computes, meaning, or_tells, plain, primitive_in, tells, updating, value_of}
+use Rattle.std.proofs.lemmas.Option.{same_Some}
 use Rattle.std.specs.Option.{option_map}
 
 abbrev pub prim_of : Known → Option Primitive
@@ -53,26 +54,19 @@ More κ μ = (x : ℕ) → Below (κ x) (μ x)
 
 module _ (κ μ : Knowledge) (m : (x : ℕ) → Below (κ x) (μ x)) where
   prim_more : (y : ℕ) → Below (prim_at κ y) (prim_at μ y)
-  prim_more y = bind_first_below (κ y) (μ y) prim_of (m y)
+  prim_more y = bind_below (κ y) (μ y) prim_of prim_of (m y) (λ x k e. e)
 
-  prims_more : (ys : List ℕ) → AllBelow (map (prim_at κ) ys) (map (prim_at μ) ys)
-  prims_more [] = tt
-  prims_more (y ∷ ys) = (prim_more y, prims_more ys)
+  updated_more : (o : UpdateOperator) (y : ℕ) → Below (bind (prim_at κ y) (updated o)) (bind (prim_at μ y) (updated o))
+  updated_more o y = bind_below _ _ _ _ (prim_more y) (λ x k e. e)
 
   new_more : (o : UpdateOperator) (y : ℕ) → Below (new_at κ o y) (new_at μ o y)
-  new_more o y = mapped_below _ _ _ (bind_first_below (prim_at κ y) (prim_at μ y) (updated o) (prim_more y))
+  new_more o y = mapped_below _ _ _ (updated_more o y)
 
   old_more : (o : UpdateOperator) (y : ℕ) → Below (old_at κ o y) (old_at μ o y)
-  old_more o y k e =
-      bind_below (bind (prim_at μ y) (updated o)) (λ x. κ y) (λ x. μ y) (λ x. m y) k
-      (bind_first_below (bind (prim_at κ y) (updated o)) (bind (prim_at μ y) (updated o)) (λ x. κ y) (bind_first_below (prim_at κ y) (prim_at μ y) (updated o) (prim_more y)) k e)
-
-  none_more : (xs : List ℕ) → AllBelow {A = Known} (map (λ x. None) xs) (map (λ x. None) xs)
-  none_more [] = tt
-  none_more (x ∷ xs) = ((λ k e. e), none_more xs)
+  old_more o y = bind_below _ _ _ _ (updated_more o y) (λ x. m y)
 
   fold_more : (c : Conversions) (T : List (List ℕ)) (i : Instruction) (ys : List ℕ) → Below (option_map prim (fold c T i (map (prim_at κ) ys))) (option_map prim (fold c T i (map (prim_at μ) ys)))
-  fold_more c T i ys = mapped_below prim _ _ (values_below c T i (map (prim_at κ) ys) (map (prim_at μ) ys) (prims_more ys))
+  fold_more c T i ys = mapped_below prim _ _ (fold_below c c (within_self c) T i _ _ (maps_below (prim_at κ) (prim_at μ) prim_more ys))
 
   pub yields_more : (c : Conversions) (T : List (List ℕ)) (i : Instruction) → AllBelow (yields c T κ i) (yields c T μ i)
   yields_more c T (load_local x y s) = (m y, tt)
@@ -83,7 +77,7 @@ module _ (κ μ : Knowledge) (m : (x : ℕ) → Below (κ x) (μ x)) where
   yields_more c T (template x ys qs s) = (fold_more c T (template x ys qs s) ys, tt)
   yields_more c T (prefix_update x p o y s) = (new_more o y, (new_more o y, tt))
   yields_more c T (postfix_update x p o y s) = (old_more o y, (new_more o y, tt))
-  yields_more c T (opaque k ys xs) = none_more xs
+  yields_more c T (opaque k ys xs) = maps_below _ _ (λ x k e. e) xs
   yields_more c T i = ((λ k e. e), tt)
 
 -- ---- and a run computes it
@@ -122,22 +116,18 @@ module _ (w : World) (c : Conversions) (agree : Within c (always w.conversions))
   told : (y r : Option Primitive) (k : EventKind) (vs : List Value) → Below y r → Means w (option_map prim y ∷ []) (or_tells r k vs)
   told None None k vs b = (refl, tt)
   told None (Some v) k vs b = ((λ j e. cc), tt)
-  told (Some u) None k vs b = (let h = b u refl in cc, tt)
-  told (Some u) (Some v) k vs b = ((λ j e. (let h = b u refl in let same : v ≡ u = cc in let is : prim u ≡ j = cc in ap plain same ∙ ap (in_world w) is)), tt)
+  told (Some u) None k vs b = (cc (b u refl), tt)
+  told (Some u) (Some v) k vs b = ((λ j e. ap plain (same_Some v u (b u refl)) ∙ ap (in_world w) (same_Some (prim u) j e)), tt)
 
   folds : (T : List (List ℕ)) (i : Instruction) (ys : List ℕ) → Has t ys → Below (fold c T i (map (prim_at κ) ys)) (fold (always w.conversions) T i (map primitive_in (map (value_of t) ys)))
-  folds T i ys h v e = fold_below c (always w.conversions) agree T i (map primitive_in (map (value_of t) ys)) v (values_below c T i (map (prim_at κ) ys) (map primitive_in (map (value_of t) ys)) (prims_look ys h) v e)
+  folds T i ys h = fold_below c (always w.conversions) agree T i _ _ (prims_look ys h)
 
   getting_as : (T : List (List ℕ)) (x o : ℕ) (p : _) (s : _) (v : Value) → fold (always w.conversions) T (property_load x o p s) (primitive_in v ∷ []) ≡ length_fold (primitive_in v) (Some (key_value T p))
-  getting_as T x o p s v = by (primitive_in v)
-    where
-      by : (u : Option Primitive) → bind u (λ object. length_fold (Some object) (Some (key_value T p))) ≡ length_fold u (Some (key_value T p))
-      by None = refl
-      by (Some u) = refl
+  getting_as T x o p s v = grind arith
 
   -- an update, by what is known of the place and by what a run has there
   updates : (o : UpdateOperator) (y : ℕ) → Has t (y ∷ []) → Below (bind (prim_at κ y) (updated o)) (bind (primitive_in (value_of t y)) (updated o))
-  updates o y h = bind_first_below (prim_at κ y) (primitive_in (value_of t y)) (updated o) (prim_look y (h y (inl refl)))
+  updates o y h = bind_below _ _ _ _ (prim_look y (h y (inl refl))) (λ x k e. e)
 
   nothing : (xs : List ℕ) → Nothing (map (λ x. None) xs)
   nothing [] = tt
@@ -147,33 +137,29 @@ module _ (w : World) (c : Conversions) (agree : Within c (always w.conversions))
       → Means w (option_map (λ x. prim (value.number x)) n ∷ option_map (λ x. prim (value.number x)) n ∷ []) (updating (λ old new. new ∷ new ∷ []) k v r)
   prefix_means k v None None b = (refl, (refl, tt))
   prefix_means k v None (Some x) b = ((λ j e. cc), ((λ j e. cc), tt))
-  prefix_means k v (Some x) None b = (let h = b x refl in cc, (let h = b x refl in cc, tt))
-  prefix_means k v (Some x) (Some z) b = let same : z ≡ x = some_same (b x refl) in (number_is same, (number_is same, tt))
-    where
-      some_same : {x z : Float} → Some z ≡ Some x → z ≡ x
-      some_same e = cc
-
-      number_is : {x z : Float} → z ≡ x → (j : Known) → Some (prim (value.number x)) ≡ Some j → plain (value.number z) ≡ in_world w j
-      number_is {x = x} {z = z} same j e = let is : prim (value.number x) ≡ j = cc in ap (λ (f : Float). plain (value.number f)) same ∙ ap (in_world w) is
+  prefix_means k v (Some x) None b = (cc (b x refl), (cc (b x refl), tt))
+  prefix_means k v (Some x) (Some z) b =
+      let one = λ (j : Known) (e : Some (prim (value.number x)) ≡ Some j). ap (λ (f : Float). plain (value.number f)) (same_Some z x (b x refl)) ∙ ap (in_world w) (same_Some (prim (value.number x)) j e) in
+      (one, (one, tt))
 
   postfix_means : (k : EventKind) (v : Value) (old : Option Known) (n r : Option Float) → Below n r → ((j : Known) → old ≡ Some j → v ≡ in_world w j)
       → Means w (bind n (λ x. old) ∷ option_map (λ x. prim (value.number x)) n ∷ []) (updating (λ old new. old ∷ new ∷ []) k v r)
   postfix_means k v old None None b f = (refl, (refl, tt))
   postfix_means k v old None (Some x) b f = ((λ j e. cc), ((λ j e. cc), tt))
-  postfix_means k v old (Some x) None b f = (let h = b x refl in cc, (let h = b x refl in cc, tt))
+  postfix_means k v old (Some x) None b f = (cc (b x refl), (cc (b x refl), tt))
   postfix_means k v old (Some x) (Some z) b f = (f, ((prefix_means k v (Some x) (Some z) b).0, tt))
 
   -- What is yielded is what the instruction comes to in a run, where all that it reads has been assigned.
   pub means : (T : List (List ℕ)) (i : Instruction) → Has t (reads i) → Means w (yields c T κ i) (meaning w T i (map (value_of t) (reads i)))
   means T (load_local x y s) h = (look y (h y (inl refl)), tt)
   means T (store_local x p k y s) h = (look y (h y (inl refl)), (look y (h y (inl refl)), tt))
-  means T (primitive x l s) h = ((λ k e. (let is : prim (literal_value T l) ≡ k = cc in ap (in_world w) is)), tt)
+  means T (primitive x l s) h = ((λ k e. ap (in_world w) (same_Some (prim (literal_value T l)) k e)), tt)
   means T (binary x o y z s) h = told _ _ _ _ (folds T (binary x o y z s) (y ∷ z ∷ []) h)
   means T (unary x o y s) h = told _ _ _ _ (folds T (unary x o y s) (y ∷ []) h)
   means T (property_load x o p s) h =
       told _ _ _ _ (subst (λ (r : Option Primitive). Below (fold c T (property_load x o p s) (map (prim_at κ) (o ∷ []))) r) (getting_as T x o p s (value_of t o)) (folds T (property_load x o p s) (o ∷ []) h))
   means T (computed_load x o p s) h = told None (length_fold (primitive_in (value_of t o)) (primitive_in (value_of t p))) _ _ (λ v e. cc)
-  means T (load_global x b s) h = ((λ k e. (let is : glob (text_at T (binding_name b)) ≡ k = cc in ap (in_world w) is)), tt)
+  means T (load_global x b s) h = ((λ k e. ap (in_world w) (same_Some (glob (text_at T (binding_name b))) k e)), tt)
   means T (template x ys qs s) h = told _ _ _ _ (folds T (template x ys qs s) ys h)
   means T (prefix_update x p o y s) h = prefix_means _ _ _ _ (updates o y h)
   means T (postfix_update x p o y s) h = postfix_means _ _ (κ y) _ _ (updates o y h) (look y (h y (inl refl)))
