@@ -1,5 +1,5 @@
 -- A run of a valid body is true to what is justly known; and another body, whose blocks come to the same wherever that holds, runs the same.
-use Rattle.std.proofs.Common.{◌≡◌, ℕ, zero, suc, ◌<◌, Bool, true, false, cond, eqb, ltb, ◌⊎◌, List, [], ◌∷◌, ◌++◌, map, length, get_or, Some, None, Option, sym, refl, ap, ◌∙◌, subst, inl, inr, append_assoc, append-nil, arith}
+use Rattle.std.proofs.Common.{◌≡◌, ℕ, zero, suc, ◌<◌, eqb, ltb, ◌⊎◌, List, [], ◌∷◌, ◌++◌, map, length, get_or, Some, None, Option, sym, refl, ap, ◌∙◌, subst, inl, inr, append_assoc, append-nil, arith}
 use mathlib.Core.List.{reverse_aux}
 use Rattle.hir.proofs.Members.{mem_left, mem_right, mem_split}
 use Rattle.hir.specs.Body.{block_at, graph_of}
@@ -7,12 +7,12 @@ use Rattle.hir.specs.Graph.{Path, along, entry}
 use Rattle.hir.specs.Lists.{Mem, flat_map}
 use Rattle.hir.specs.Places.{reads, successors, terminal_reads, terminal_writes, writes}
 use Rattle.hir.specs.Script.{Block, Instruction, Operand, Phi, Terminal}
-use Rattle.runs.proofs.Senses.{Fitting, Has, Known, Knowledge, True, assigning_has, assigning_true, in_world, places, true_look, true_more}
+use Rattle.runs.proofs.Senses.{Computes, Fitting, Has, Known, Knowledge, True, assigning_has, assigning_true, in_world, true_look, true_more}
 use Rattle.runs.proofs.ValidBodies.{Just, Justified, Valid, assigned_by, assigned_on, flat_append, phi_places}
-use Rattle.runs.proofs.Yields.{Computes, Means, Nothing, means, yields}
+use Rattle.runs.proofs.Yields.{Means, Nothing, means, yields}
 use Rattle.runs.specs.Folds.{Conversions, Within, always}
-use Rattle.runs.specs.Runs.{Answer, Assignment, Ending, Event, Exit, Flow, Meaning, State, Turn, Value, World, and_then, assigned, block_run, blocks_out, chooses, choosing, computes, continued, ends, executed, executed_all, exited, exited_by, finished, forks, gives, goes_on, halts, jumps, leaves, meaning, operand_from, performed, phi_value, phis_assigned, run_from, started, state, stops, taken, taking, tells, turn_of, turned_by, unfit, value_if, value_of}
-use Rattle.std.proofs.lemmas.Bool.{ltb-true}
+use Rattle.runs.specs.Runs.{Answer, Assignment, Ending, Event, Exit, Flow, Meaning, State, Turn, Value, World, and_then, assigned, block_run, blocks_out, chooses, choosing, computes, continued, ends, executed, executed_all, exited, exited_by, finished, forks, gives, goes_on, halts, jumps, leaves, meaning, operand_from, performed, phi_value, phis_assigned, run_from, started, state, stops, taken, taking, tells, turn_of, turned_by, value_of}
+use Rattle.std.proofs.lemmas.Bool.{cases_cond, cond_both, ltb-true}
 
 -- ---- steps that keep a trace true
 
@@ -103,7 +103,7 @@ mem-reverse a (x ∷ xs) ys m = let k = mem-reverse a xs (x ∷ ys) m in grind a
 module _ (w : World) (c : Conversions) (agree : Within c (always w.conversions)) (κ : Knowledge) (T T' : List (List ℕ)) (ps : List ℕ) (Bs Cs : List (Block Terminal))
     (valid : Valid ps Bs) (just : Just c T κ ps Bs) (near : (b : ℕ) → NearBlock w κ T T' (block_at Bs b) (block_at Cs b)) where
   executed_near : (i j : Instruction) → Alike w κ T T' i j → (s : State) → True w κ s.assignments → Has s.assignments (reads i) → executed w T' j s ≡ executed w T i s
-  executed_near i j a s tr h = ap (λ (xs : List ℕ). performed xs (meaning w T' j (map (value_of s.assignments) (reads j))) s) a.writing ∙ ap (λ (m : Meaning). performed (writes i) m s) (a.meant s.assignments tr h)
+  executed_near i j a s tr h = rw (a.writing, a.meant s.assignments tr h)
 
   module _ (b : ℕ) (h : List ℕ) (path : Path (graph_of Bs) (b ∷ h)) where
     -- the instructions after `before`
@@ -118,11 +118,11 @@ module _ (w : World) (c : Conversions) (agree : Within c (always w.conversions))
         let has_reads : Has s.assignments (reads i) = (λ x m. hs x (valid.code_used b h path before i is e x m)) in
         let same = executed_near i j n.0 s tr has_reads in
         let m = means w c agree κ s.assignments tr T i has_reads in
-        let at : Mem i (block_at Bs b).code = subst (Mem i) (sym e) (mem_right i before (i ∷ is) (inl refl)) in
+        let at : Mem i (block_at Bs b).code = rw e (mem_right i before (i ∷ is) (inl refl)) in
         let fine = performed_fine w κ (writes i) (yields c T κ i) (meaning w T i (map (value_of s.assignments) (reads i))) s D (just.coded b i at) m tr hs in
         let next : (block_at Bs b).code ≡ (before ++ i ∷ []) ++ is = e ∙ sym (append_assoc before (i ∷ []) is) in
         let on = on_flow (executed w T i s) fine (λ u tru hu. code_near (before ++ i ∷ []) is js next n.1 u tru hu) in
-        (ap (λ (f : Flow). and_then f (executed_all w T' js)) same ∙ on.0, on.1)
+        (rw same on.0, on.1)
       where
         more : (x : ℕ) → Mem x (assigned_by ps Bs b (before ++ i ∷ []) h) → Mem x (writes i ++ assigned_by ps Bs b before h)
         more x m =
@@ -151,15 +151,9 @@ module _ (w : World) (c : Conversions) (agree : Within c (always w.conversions))
     taken_out (stops e) l s tr hs = tr
     taken_out (forks bs) l s tr hs = by s.answers
       where
-        picked : (k : ℕ) (answers : List Answer) (d : Bool) → ltb k (length bs) ≡ d
-            → Out (cond d (leaves (get_or bs k 0) (state s.assignments s.events answers)) (halts unfit (state s.assignments s.events (chooses k ∷ answers))))
-        picked k answers true e = (l (get_or bs k 0) (get-mem bs k (ltb-true k (length bs) e)), tr, hs)
-        picked k answers false e = tr
-
         by : (answers : List Answer) → Out (choosing bs answers s.assignments s.events)
-        by [] = tr
-        by (gives v ∷ answers) = tr
-        by (chooses k ∷ answers) = picked k answers (ltb k (length bs)) refl
+        by (chooses k ∷ answers) = cond_both (ltb k (length bs)) _ _ Out (λ e. (l (get_or bs k 0) (get-mem bs k (ltb-true k (length bs) e)), tr, hs)) (λ e. tr)
+        by answers = tr
 
     exited_near : (u : Terminal) → terminal_writes u ≡ terminal_writes (block_at Bs b).terminal
         → ((t : List Assignment) → True w κ t → Has t (terminal_reads (block_at Bs b).terminal) → turn_of u (value_of t) ≡ turn_of (block_at Bs b).terminal (value_of t))
@@ -170,7 +164,7 @@ module _ (w : World) (c : Conversions) (agree : Within c (always w.conversions))
         let flow = taking (terminal_writes t) s.answers s.assignments s.events in
         let fine = taking_fine w κ (terminal_writes t) s.answers s.assignments s.events (assigned_by ps Bs b (block_at Bs b).code h) (λ x m. just.bound b x m) tr hs in
         let on = on_flow flow fine in
-        (ap (λ (xs : List ℕ). turned_by u (taking xs s.answers s.assignments s.events)) e ∙ on.0, on.1)
+        (rw e on.0, on.1)
       where
         on_flow : (f : Flow) → Fine w κ (terminal_writes (block_at Bs b).terminal ++ assigned_by ps Bs b (block_at Bs b).code h) f
             → (turned_by u f ≡ turned_by (block_at Bs b).terminal f) × Out (turned_by (block_at Bs b).terminal f)
@@ -190,11 +184,8 @@ module _ (w : World) (c : Conversions) (agree : Within c (always w.conversions))
 
   operand_mem : (a : ℕ) (os : List Operand) (y : ℕ) → operand_from a os ≡ Some y → (o : Operand) × Mem o os × (o.value ≡ y)
   operand_mem a [] y e = cc
-  operand_mem a (o ∷ os) y e = by (eqb o.block a) e (λ f. operand_mem a os y f)
-    where
-      by : (d : Bool) → cond d (Some o.value) (operand_from a os) ≡ Some y → (operand_from a os ≡ Some y → (p : Operand) × Mem p os × (p.value ≡ y)) → (p : Operand) × Mem p (o ∷ os) × (p.value ≡ y)
-      by true f ih = (o, inl refl, cc)
-      by false f ih = let r = ih f in (r.0, inr r.1, r.2)
+  operand_mem a (o ∷ os) y e =
+      elim (cases_cond (eqb o.block a) (Some o.value) (operand_from a os) (Some y) (sym e)) [ inl h ↦ (o, inl refl, cc h) | inr h ↦ (let r = operand_mem a os y (sym h) in (r.0, inr r.1, r.2)) ]
 
   phi_fits : (b : ℕ) (h : List ℕ) → Path (graph_of Bs) (b ∷ h) → (t : List Assignment) → True w κ t → Has t (assigned_on ps Bs h) → (φ : Phi) → Mem φ (block_at Bs b).phis
       → (k : Known) → κ φ.place ≡ Some k → phi_value (coming_from h) t φ ≡ in_world w k
@@ -202,8 +193,8 @@ module _ (w : World) (c : Conversions) (agree : Within c (always w.conversions))
   phi_fits b h (along {a = a} {b = d} {h = g} p edge) t tr hs φ m k e =
       let n = valid.named a g p b edge φ m in
       let o = operand_mem a φ.operands n.0 n.1 in
-      let known : κ n.0 ≡ Some k = subst (λ (y : ℕ). κ y ≡ Some k) o.2 (just.joined b φ m k e o.0 o.1) in
-      ap (value_if t) n.1 ∙ true_look w κ t n.0 k tr (hs n.0 n.2) known
+      let known : κ n.0 ≡ Some k = rw o.2 at (just.joined b φ m k e o.0 o.1) in
+      rw n.1 (true_look w κ t n.0 k tr (hs n.0 n.2) known)
 
   phis_fit : (from : Option ℕ) (t : List Assignment) (φs : List Phi) → ((φ : Phi) → Mem φ φs → (k : Known) → κ φ.place ≡ Some k → phi_value from t φ ≡ in_world w k)
       → Fitting w κ (map (λ φ. φ.place) φs) (map (phi_value from t) φs)
@@ -220,19 +211,13 @@ module _ (w : World) (c : Conversions) (agree : Within c (always w.conversions))
       let t = phis_assigned (coming_from h) B.phis s.assignments in
       let fit = phis_fit (coming_from h) s.assignments B.phis (λ φ m k e. phi_fits b h p s.assignments tr hs φ m k e) in
       let begin = state t s.events s.answers in
-      let code = code_near b h p [] B.code C.code refl (near b).near_code begin (assigning_true w κ (phi_places B) (map (phi_value (coming_from h) s.assignments) B.phis) s.assignments fit tr) (λ x m. first x m fit) in
+      let code = code_near b h p [] B.code C.code refl (near b).near_code begin (assigning_true w κ (phi_places B) (map (phi_value (coming_from h) s.assignments) B.phis) s.assignments fit tr)
+      (λ x m. assigning_has w κ (phi_places B) _ s.assignments fit x (grind (arith, mem_split x (phi_places B) (assigned_on ps Bs h) (rw append-nil at m), hs x))) in
       let on = on_flow (executed_all w T B.code begin) code.1 in (
-        ap (λ (φs : List Phi). exited_by C.terminal (executed_all w T' C.code (state (phis_assigned (coming_from h) φs s.assignments) s.events s.answers))) (near b).same_phis
-            ∙ ap (exited_by C.terminal) code.0 ∙ on.0,
+        rw ((near b).same_phis, code.0) on.0,
         on.1,
       )
     where
-      first : (x : ℕ) → Mem x (assigned_by ps Bs b [] h) → Fitting w κ (map (λ φ. φ.place) (block_at Bs b).phis) (map (phi_value (coming_from h) s.assignments) (block_at Bs b).phis)
-          → Mem x (places (phis_assigned (coming_from h) (block_at Bs b).phis s.assignments))
-      first x m fit =
-          let P = phi_places (block_at Bs b) in
-          assigning_has w κ P _ s.assignments fit x (grind (arith, mem_split x P (assigned_on ps Bs h) (rw append-nil at m), hs x))
-
       on_flow : (f : Flow) → Fine w κ (assigned_by ps Bs b (block_at Bs b).code h) f
           → (exited_by (block_at Cs b).terminal f ≡ exited_by (block_at Bs b).terminal f) × Out b h p (exited_by (block_at Bs b).terminal f)
       on_flow (goes_on v) fine = exited_near b h p (block_at Cs b).terminal (near b).binding (near b).turning v fine.0 fine.1
@@ -249,7 +234,7 @@ module _ (w : World) (c : Conversions) (agree : Within c (always w.conversions))
   run_near (suc n) b h p s tr hs =
       let blocks = block_near b h p s tr hs in
       let on = on_exit (block_run w T (coming_from h) (block_at Bs b) s) blocks.1 (λ a q u tru hu. run_near n a (b ∷ h) q u tru hu) in
-      (ap (continued (run_from w T' Cs n (Some b)) b) blocks.0 ∙ on.0, on.1)
+      (rw blocks.0 on.0, on.1)
     where
       on_exit : (x : Exit) → Out b h p x
           → ((a : ℕ) → Path (graph_of Bs) (a ∷ b ∷ h) → (u : State) → True w κ u.assignments → Has u.assignments (assigned_on ps Bs (b ∷ h))

@@ -10,7 +10,7 @@ use Rattle.hir.specs.Places.{binding_name, reads}
 use Rattle.hir.specs.Script.{Instruction}
 use Rattle.hir.specs.Script.{load_local, store_local, primitive, binary, unary, property_store, property_load, computed_store, computed_load, load_global, template, prefix_update, postfix_update, start_memoize, opaque}
 use Rattle.runs.proofs.Monotone.{AllBelow, Below, bind_below, fold_below, mapped_below, maps_below, within_self}
-use Rattle.runs.proofs.Senses.{Has, Known, Knowledge, True, glob, in_world, prim, true_look}
+use Rattle.runs.proofs.Senses.{Computes, Has, Known, Knowledge, True, glob, in_world, prim, true_look}
 use Rattle.runs.specs.Folds.{Conversions, Within, always, bind, fold, key_value, length_fold, literal_value, updated}
 use Rattle.runs.specs.Runs.{Assignment, EventKind, Meaning, Value, World, computes, meaning, or_tells, plain, primitive_in, tells, updating, value_of}
 use Rattle.std.proofs.lemmas.Option.{same_Some}
@@ -82,16 +82,11 @@ module _ (κ μ : Knowledge) (m : (x : ℕ) → Below (κ x) (μ x)) where
 
 -- ---- and a run computes it
 
--- a meaning gives what is yielded; where it tells an event, nothing is
-abbrev pub Computes : World → List (Option Known) → List Value → Type 0
-Computes w [] vs = Unit {0}
-Computes w (y ∷ ys) [] = ⊥
-Computes w (y ∷ ys) (v ∷ vs) = ((k : Known) → y ≡ Some k → v ≡ in_world w k) × Computes w ys vs
-
 abbrev pub Nothing : List (Option Known) → Type 0
 Nothing [] = Unit {0}
 Nothing (y ∷ ys) = (y ≡ None) × Nothing ys
 
+-- a meaning gives what is yielded; where it tells an event, nothing is
 abbrev pub Means : World → List (Option Known) → Meaning → Type 0
 Means w ys (computes vs) = Computes w ys vs
 Means w ys (tells k vs) = Nothing ys
