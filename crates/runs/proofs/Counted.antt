@@ -1,19 +1,15 @@
 -- The Ifs of all blocks and those that were turned are together those that were sealed.
 use Rattle.std.proofs.lemmas.Bool.{cond_both}
 use Rattle.std.proofs.Common.{◌≡◌, ℕ, zero, suc, ◌+◌, ◌≤◌, eqb, List, [], ◌∷◌, length, get_or, set, is_some, Some, None, Option, refl, ◌∙◌, add-zero, arith}
-use Rattle.ecma.specs.Value.{Primitive}
-use Rattle.ecma.specs.Value as value
 use Rattle.hir.specs.Body.{Body, Test, block_at, count_ifs, graph_of, if_of, sealing}
-use Rattle.hir.specs.declared.parts.Span.{Span}
 use Rattle.hir.specs.Graph.{walked}
 use Rattle.hir.specs.Lists.{mod_at, total}
 use Rattle.hir.specs.Renaming.{renamed_terminal}
-use Rattle.hir.specs.Script.{Block, Instruction, Script, Terminal}
-use Rattle.runs.proofs.RoundSteps.{round_keeps}
+use Rattle.hir.specs.Script.{Block, Script, Terminal}
+use Rattle.runs.proofs.RoundSteps.{applied_keeps, round_keeps}
 use Rattle.runs.specs.Calls.{Calls, Last, Stage, asking, begun, rounded, tidying}
 use Rattle.runs.specs.Folds.{bind}
-use Rattle.runs.specs.Rounds.{Evaluation, HostMeaning, Room, applied, Progress, evaluation, fits, folded_to, goto_of, known, standing, standing_from, turned, turned_to, with_code, with_terminal}
-use Rattle.runs.specs.Rounds.{left, found, folded}
+use Rattle.runs.specs.Rounds.{Evaluation, HostMeaning, Room, applied, evaluation, goto_of, known, standing, standing_from, turned, turned_to, with_code, with_terminal}
 use Rattle.runs.specs.Tidies.{Elimination, block_tidied, eliminated, pass, passes, pruned, pruned_all, tidy}
 use Rattle.std.specs.Option.{option_map}
 use Rattle.std.specs.List.{AllByRecursion}
@@ -32,35 +28,26 @@ count_same f e (suc b) (B ∷ Bs) = rw (count_same f e b Bs)
 count-turned : (t : Terminal) → if_of t ≡ None → (b : ℕ) (Bs : List (Block Terminal)) (test : Test) → if_of (block_at Bs b).terminal ≡ Some test
     → suc (count_ifs (mod_at (with_terminal t) b Bs)) ≡ count_ifs Bs
 count-turned t n b [] test e = cc
-count-turned t n zero (B ∷ Bs) test e =
-    rw (n, e) (omega arith)
-count-turned t n (suc b) (B ∷ Bs) test e = let ih = count-turned t n b Bs test e in omega arith
+count-turned t n zero (B ∷ Bs) test e = rw (n, e) (omega arith)
+count-turned t n (suc b) (B ∷ Bs) test e = omega (arith, count-turned t n b Bs test e)
 
 -- ---- rounds
 
-module _ (room : Room) (n b k : ℕ) (B : Body) (c : Counted B) where
-  recount : (j : Instruction) → count_ifs (mod_at (λ C. with_code (set C.code k j) C) b B.blocks) + B.turned_ifs ≡ B.sealed_ifs
-  recount j = rw (count_same (λ C. with_code (set C.code k j) C) (λ C. refl) b B.blocks) c.all
-
-  folded_counted : (x : ℕ) (s : Option Span) (v : Primitive) → Counted (folded_to room n b k x s v B).body
-  folded_counted x s (value.string t) = cond_both (fits room B.texts t) _ _ (λ (p : Progress). Counted p.body) (λ e. record { all = recount _ }) (λ e. c)
-  folded_counted x s v = record { all = recount _ }
-
-  applied_counted : (e : Evaluation) → Counted (applied room n b k e B).body
-  applied_counted left = c
-  applied_counted (found fs j) = record { all = recount j }
-  applied_counted (folded x s v) = folded_counted x s v
+applied_counted : (room : Room) (n b k : ℕ) (B : Body) (c : Counted B) (e : Evaluation) → Counted (applied room n b k e B).body
+applied_counted room n b k B c e =
+    applied_keeps room n b k Counted (λ t C p. record { all = p.all })
+    (λ records j C p. record { all = rw (count_same (λ D. with_code (set D.code k j) D) (λ D. refl) b C.blocks) p.all }) e B c
 
 turned_counted : (b : ℕ) (B : Body) → Counted B → Counted (turned b B)
 turned_counted b B c = by (if_of (block_at B.blocks b).terminal) refl
   where
-    known_counted : (test : Test) → if_of (block_at B.blocks b).terminal ≡ Some test → (v : Option Primitive) → Counted (turned_to b (option_map (goto_of test) v) B)
-    known_counted test e None = c
-    known_counted test e (Some v) = record { all = omega (arith, count-turned (goto_of test v) refl b B.blocks test e) }
-
     by : (o : Option Test) → if_of (block_at B.blocks b).terminal ≡ o → Counted (turned_to b (bind o (λ test. option_map (goto_of test) (known B test.test))) B)
     by None e = c
-    by (Some test) e = known_counted test e (known B test.test)
+    by (Some test) e =
+        elim (known B test.test) as (λ v. Counted (turned_to b (option_map (goto_of test) v) B)) [
+          | None ↦ c
+          | Some v ↦ record { all = omega (arith, count-turned (goto_of test v) refl b B.blocks test e) }
+        ]
 
 -- ---- tidies
 
@@ -106,5 +93,4 @@ calls_counted host start c g now l (asking {g = h} {B = B} {l = k} q cs) = calls
 pub turned_within : (identifiers : ℕ) (s : Script) (host : HostMeaning) (g : Stage) (now : Body) (l : Last)
     → Calls host (sealing identifiers s) g now l → now.turned_ifs ≤ now.sealed_ifs
 turned_within identifiers s host g now l cs =
-    let sum = (calls_counted host (sealing identifiers s) (record { all = add-zero _ }) g now l cs).all in
-    omega arith
+    omega (arith, (calls_counted host (sealing identifiers s) (record { all = add-zero _ }) g now l cs).all)

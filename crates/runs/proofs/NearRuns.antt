@@ -1,5 +1,5 @@
 -- A run of a valid body is true to what is justly known; and another body, whose blocks come to the same wherever that holds, runs the same.
-use Rattle.std.proofs.Common.{◌≡◌, ℕ, zero, suc, ◌<◌, eqb, ltb, ◌⊎◌, List, [], ◌∷◌, ◌++◌, map, length, get_or, Some, None, Option, sym, refl, ap, ◌∙◌, subst, inl, inr, append_assoc, append-nil, arith}
+use Rattle.std.proofs.Common.{◌≡◌, ℕ, zero, suc, ◌<◌, eqb, ltb, ◌⊎◌, List, [], ◌∷◌, ◌++◌, map, length, get_or, Some, None, Option, sym, refl, ◌∙◌, subst, inl, inr, append_assoc, append-nil, arith}
 use mathlib.Core.List.{reverse_aux}
 use Rattle.hir.proofs.Members.{mem_left, mem_right, mem_split}
 use Rattle.hir.specs.Body.{block_at, graph_of}
@@ -28,6 +28,11 @@ Fine w κ xs (ends e s) = True w κ s.assignments
 fine_fewer : (w : World) (κ : Knowledge) (xs ys : List ℕ) (f : Flow) → ((x : ℕ) → Mem x ys → Mem x xs) → Fine w κ xs f → Fine w κ ys f
 fine_fewer w κ xs ys (goes_on s) sub h = (h.0, (λ x m. h.1 x (sub x m)))
 fine_fewer w κ xs ys (ends e s) sub h = h
+
+fine_then : (w : World) (κ : Knowledge) (xs : List ℕ) (f : Flow) (R : Flow → Type 0) → Fine w κ xs f
+    → ((u : State) → True w κ u.assignments → Has u.assignments xs → R (goes_on u)) → ((e : Ending) (u : State) → True w κ u.assignments → R (ends e u)) → R f
+fine_then w κ xs (goes_on u) R h on out = on u h.0 h.1
+fine_then w κ xs (ends e u) R h on out = out e u h
 
 -- what stands in the second of three lists is moved to the front
 moved : (x : ℕ) (P X A : List ℕ) → Mem x (P ++ X ++ A) → Mem x (X ++ (P ++ A))
@@ -121,7 +126,10 @@ module _ (w : World) (c : Conversions) (agree : Within c (always w.conversions))
         let at : Mem i (block_at Bs b).code = rw e (mem_right i before (i ∷ is) (inl refl)) in
         let fine = performed_fine w κ (writes i) (yields c T κ i) (meaning w T i (map (value_of s.assignments) (reads i))) s D (just.coded b i at) m tr hs in
         let next : (block_at Bs b).code ≡ (before ++ i ∷ []) ++ is = e ∙ sym (append_assoc before (i ∷ []) is) in
-        let on = on_flow (executed w T i s) fine (λ u tru hu. code_near (before ++ i ∷ []) is js next n.1 u tru hu) in
+        let on =
+        fine_then w κ (writes i ++ D) (executed w T i s)
+        (λ (f : Flow). (and_then f (executed_all w T' js) ≡ and_then f (executed_all w T is)) × Fine w κ (assigned_by ps Bs b (before ++ i ∷ is) h) (and_then f (executed_all w T is)))
+        fine (λ u tru hu. rw (← append_assoc before (i ∷ []) is) (code_near (before ++ i ∷ []) is js next n.1 u tru (λ x m. hu x (more x m)))) (λ e u tru. (refl, tru)) in
         (rw same on.0, on.1)
       where
         more : (x : ℕ) → Mem x (assigned_by ps Bs b (before ++ i ∷ []) h) → Mem x (writes i ++ assigned_by ps Bs b before h)
@@ -129,15 +137,6 @@ module _ (w : World) (c : Conversions) (agree : Within c (always w.conversions))
             let P = phi_places (block_at Bs b) in
             moved x (P ++ flat_map writes before) (writes i) (assigned_on ps Bs h)
             (rw (append_assoc P (flat_map writes before) (writes i), ← append-nil (writes i), ← flat_append writes before (i ∷ [])) m)
-
-        on_flow : (f : Flow) → Fine w κ (writes i ++ assigned_by ps Bs b before h) f
-            → ((u : State) → True w κ u.assignments → Has u.assignments (assigned_by ps Bs b (before ++ i ∷ []) h)
-            → (executed_all w T' js u ≡ executed_all w T is u) × Fine w κ (assigned_by ps Bs b ((before ++ i ∷ []) ++ is) h) (executed_all w T is u))
-            → (and_then f (executed_all w T' js) ≡ and_then f (executed_all w T is)) × Fine w κ (assigned_by ps Bs b (before ++ i ∷ is) h) (and_then f (executed_all w T is))
-        on_flow (goes_on u) fine rec =
-            let r = rec u fine.0 (λ x m. fine.1 x (more x m)) in
-            (r.0, subst (λ (l : List Instruction). Fine w κ (assigned_by ps Bs b l h) (executed_all w T is u)) (append_assoc before (i ∷ []) is) r.1)
-        on_flow (ends e u) fine rec = (refl, fine)
 
     -- ---- the terminal
 
@@ -163,18 +162,15 @@ module _ (w : World) (c : Conversions) (agree : Within c (always w.conversions))
         let t = (block_at Bs b).terminal in
         let flow = taking (terminal_writes t) s.answers s.assignments s.events in
         let fine = taking_fine w κ (terminal_writes t) s.answers s.assignments s.events (assigned_by ps Bs b (block_at Bs b).code h) (λ x m. just.bound b x m) tr hs in
-        let on = on_flow flow fine in
+        let on =
+        fine_then w κ _ flow (λ (f : Flow). (turned_by u f ≡ turned_by t f) × Out (turned_by t f)) fine
+        (λ v trv hv. (
+          rw (turns v.assignments trv (λ x m. hv x (mem_right x (terminal_writes t) _ (valid.terminal_used b h path x m)))),
+          taken_out (turn_of t (value_of v.assignments)) (turn_leads t (value_of v.assignments)) v trv
+              (λ x m. hv x (moved x (phi_places (block_at Bs b) ++ flat_map writes (block_at Bs b).code) (terminal_writes t) (assigned_on ps Bs h) m)),
+        ))
+        (λ e v trv. (refl, trv)) in
         (rw e on.0, on.1)
-      where
-        on_flow : (f : Flow) → Fine w κ (terminal_writes (block_at Bs b).terminal ++ assigned_by ps Bs b (block_at Bs b).code h) f
-            → (turned_by u f ≡ turned_by (block_at Bs b).terminal f) × Out (turned_by (block_at Bs b).terminal f)
-        on_flow (goes_on v) fine =
-            let t = (block_at Bs b).terminal in (
-              ap (λ (n : Turn). taken n v) (turns v.assignments fine.0 (λ x m. fine.1 x (mem_right x (terminal_writes t) _ (valid.terminal_used b h path x m)))),
-              taken_out (turn_of t (value_of v.assignments)) (turn_leads t (value_of v.assignments)) v fine.0
-                  (λ x m. fine.1 x (moved x (phi_places (block_at Bs b) ++ flat_map writes (block_at Bs b).code) (terminal_writes t) (assigned_on ps Bs h) m)),
-            )
-        on_flow (ends e v) fine = (refl, fine)
 
   -- ---- phis
 
@@ -213,15 +209,10 @@ module _ (w : World) (c : Conversions) (agree : Within c (always w.conversions))
       let begin = state t s.events s.answers in
       let code = code_near b h p [] B.code C.code refl (near b).near_code begin (assigning_true w κ (phi_places B) (map (phi_value (coming_from h) s.assignments) B.phis) s.assignments fit tr)
       (λ x m. assigning_has w κ (phi_places B) _ s.assignments fit x (grind (arith, mem_split x (phi_places B) (assigned_on ps Bs h) (rw append-nil at m), hs x))) in
-      let on = on_flow (executed_all w T B.code begin) code.1 in (
-        rw ((near b).same_phis, code.0) on.0,
-        on.1,
-      )
-    where
-      on_flow : (f : Flow) → Fine w κ (assigned_by ps Bs b (block_at Bs b).code h) f
-          → (exited_by (block_at Cs b).terminal f ≡ exited_by (block_at Bs b).terminal f) × Out b h p (exited_by (block_at Bs b).terminal f)
-      on_flow (goes_on v) fine = exited_near b h p (block_at Cs b).terminal (near b).binding (near b).turning v fine.0 fine.1
-      on_flow (ends e v) fine = (refl, fine)
+      let on =
+      fine_then w κ _ (executed_all w T B.code begin) (λ (f : Flow). (exited_by C.terminal f ≡ exited_by B.terminal f) × Out b h p (exited_by B.terminal f)) code.1
+      (λ v trv hv. exited_near b h p C.terminal (near b).binding (near b).turning v trv hv) (λ e v trv. (refl, trv)) in
+      (rw ((near b).same_phis, code.0) on.0, on.1)
 
   -- ---- runs
 

@@ -1,14 +1,14 @@
 -- What every step of a round keeps, a whole round keeps.
-use Rattle.std.proofs.Common.{◌≡◌, ℕ, zero, suc, false, List, [], ◌∷◌, ◌++◌, drop, set, Some, None, Option, sym, refl, append-nil, le_refl, drop-set-lt, add-one}
+use Rattle.std.proofs.Common.{◌∙◌, ◌≡◌, ℕ, zero, suc, false, List, [], ◌∷◌, ◌++◌, drop, set, Some, None, Option, sym, refl, append-nil, le_refl, drop-set-lt, add-one}
 use Rattle.ecma.specs.Value.{Primitive}
 use Rattle.ecma.specs.Value as value
-use Rattle.hir.specs.Body.{Body, block_at}
+use Rattle.hir.specs.Body.{Body, Constant, block_at}
 use Rattle.hir.specs.declared.block.BlockKind.{BlockKind}
 use Rattle.hir.specs.declared.block.BlockKind.TheVariants as kind
 use Rattle.hir.specs.declared.parts.Span.{Span}
 use Rattle.hir.specs.Lists.{any, mod_at}
 use Rattle.hir.specs.Script.{Block, Instruction, Terminal}
-use Rattle.runs.specs.Rounds.{Evaluation, HostMeaning, Progress, Room, all_but_last, applied, block_folded, blocks_folded, both_zeros_in, code_evaluated, contents_folded, evaluated, evaluated_code, evaluation, fits, folded_to, going_on, has_both_zeros, meets_both_zeros, phis_recorded, resumed, round, standing, turned, with_code}
+use Rattle.runs.specs.Rounds.{Evaluation, HostMeaning, Progress, Room, all_but_last, applied, block_folded, blocks_folded, both_zeros_in, code_evaluated, contents_folded, evaluated, evaluated_code, evaluation, fits, folded_to, going_on, replaced, with_records, with_text, has_both_zeros, meets_both_zeros, phis_recorded, resumed, round, standing, turned, with_code}
 use Rattle.runs.specs.Rounds.{left, found, folded}
 use Rattle.std.proofs.lemmas.Bool.{cond_both, or_from, or_parts}
 use Rattle.std.proofs.lemmas.List.{drop-drop}
@@ -28,23 +28,29 @@ code_of B b = (block_at B.blocks b).code
 drop_more : {A : Type 0} (k : ℕ) (xs : List A) (x : A) (ys : List A) → drop k xs ≡ x ∷ ys → drop (suc k) xs ≡ ys
 drop_more k xs x ys e = rw (← add-one k, ← drop-drop 1 k xs, e)
 
--- ---- an instruction's step changes no later instruction of its block
+-- ---- an instruction's step
+
+-- What an added text keeps, and new records with another instruction in the place of k, the whole step keeps.
+module _ (room : Room) (n b k : ℕ) (P : Body → Type 0) (text_added : (t : List ℕ) (B : Body) → P B → P (with_text t B))
+    (changed : (records : List (Option Constant)) (j : Instruction) (B : Body) → P B → P (with_records records (replaced b k j B))) where
+  folded_keeps : (x : ℕ) (s : Option Span) (v : Primitive) (B : Body) → P B → P (folded_to room n b k x s v B).body
+  folded_keeps x s (value.string t) B p = cond_both (fits room B.texts t) _ _ (λ (q : Progress). P q.body) (λ e. changed _ _ (with_text t B) (text_added t B p)) (λ e. p)
+  folded_keeps x s v B p = changed _ _ B p
+
+  pub applied_keeps : (e : Evaluation) (B : Body) → P B → P (applied room n b k e B).body
+  applied_keeps left B p = p
+  applied_keeps (found fs j) B p = changed _ j B p
+  applied_keeps (folded x s v) B p = folded_keeps x s v B p
+
+-- ---- it changes no later instruction of its block
 
 replaced_rest : (b k : ℕ) (j : Instruction) (Bs : List (Block Terminal))
     → drop (suc k) (block_at (mod_at (λ C. with_code (set C.code k j) C) b Bs) b).code ≡ drop (suc k) (block_at Bs b).code
-replaced_rest b k j Bs =
-    rw (at_changed _ b Bs refl) (drop-set-lt (suc k) (block_at Bs b).code k j (le_refl (suc k)))
+replaced_rest b k j Bs = rw (at_changed _ b Bs refl) (drop-set-lt (suc k) (block_at Bs b).code k j (le_refl (suc k)))
 
-module _ (room : Room) (n b k : ℕ) (B : Body) where
-  folded_rest : (x : ℕ) (s : Option Span) (v : Primitive) → drop (suc k) (code_of (folded_to room n b k x s v B).body b) ≡ drop (suc k) (code_of B b)
-  folded_rest x s (value.string t) =
-      cond_both (fits room B.texts t) _ _ (λ (p : Progress). drop (suc k) (code_of p.body b) ≡ drop (suc k) (code_of B b)) (λ e. replaced_rest b k _ B.blocks) (λ e. refl)
-  folded_rest x s v = replaced_rest b k _ B.blocks
-
-  applied_rest : (e : Evaluation) → drop (suc k) (code_of (applied room n b k e B).body b) ≡ drop (suc k) (code_of B b)
-  applied_rest left = refl
-  applied_rest (found fs j) = replaced_rest b k j B.blocks
-  applied_rest (folded x s v) = folded_rest x s v
+applied_rest : (room : Room) (n b k : ℕ) (B : Body) (e : Evaluation) → drop (suc k) (code_of (applied room n b k e B).body b) ≡ drop (suc k) (code_of B b)
+applied_rest room n b k B e =
+    applied_keeps room n b k (λ C. drop (suc k) (code_of C b) ≡ drop (suc k) (code_of B b)) (λ t C p. p) (λ records j C p. replaced_rest b k j C.blocks ∙ p) e B refl
 
 -- ---- the instructions that are evaluated are the first of the block
 
