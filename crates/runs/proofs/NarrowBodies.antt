@@ -1,5 +1,5 @@
 -- A body stays valid where its blocks assign what they did, read no more and lead no further.
-use Rattle.std.proofs.Common.{◌≡◌, ℕ, suc, List, [], ◌∷◌, ◌++◌, map, length, sym, refl, ap, ◌∙◌, subst, arith}
+use Rattle.std.proofs.Common.{◌≡◌, ℕ, suc, List, [], ◌∷◌, ◌++◌, map, length, refl, ap, ◌∙◌, arith}
 use Rattle.hir.specs.Body.{block_at, graph_of}
 use Rattle.hir.specs.Graph.{Path, along, entry}
 use Rattle.hir.specs.Lists.{Mem, count, flat_map, total}
@@ -77,11 +77,11 @@ module _ (ps : List ℕ) (Bs Cs : List (Block Terminal)) (long : length Cs ≡ l
     once = λ x. omega (arith, total_same (λ B. count x (assigned_in B)) Bs Cs long (λ b. ap (count x) (assigned_same b)), v.once x);
     clean = (narrow 0).same_phis ∙ v.clean;
     code_used = λ b h p before j after e x m.
-        (let n = split_code (block_at Bs b).code before j after (subst (NarrowCode (block_at Bs b).code) e (narrow b).code) in
-        subst (Mem x) (sym (by_same b before n.0 h n.5)) (v.code_used b h (path_wider (b ∷ h) p) n.0 n.1 n.2 n.3 x (n.4.reading x m)));
+        (let n = split_code (block_at Bs b).code before j after (rw e at (narrow b).code) in
+        rw (by_same b before n.0 h n.5) (v.code_used b h (path_wider (b ∷ h) p) n.0 n.1 n.2 n.3 x (n.4.reading x m)));
     terminal_used = λ b h p x m.
-        subst (Mem x) (sym (by_same b (block_at Cs b).code (block_at Bs b).code h (code_writes (block_at Bs b).code (block_at Cs b).code (narrow b).code))) (v.terminal_used b h (path_wider (b ∷ h) p) x ((narrow b).asking x m));
+        rw (by_same b (block_at Cs b).code (block_at Bs b).code h (code_writes (block_at Bs b).code (block_at Cs b).code (narrow b).code)) (v.terminal_used b h (path_wider (b ∷ h) p) x ((narrow b).asking x m));
     named = λ a h p b edge φ m.
-        (let r = v.named a h (path_wider (a ∷ h) p) b ((narrow a).leading b edge) φ (subst (Mem φ) (narrow b).same_phis m) in
-        (r.0, r.1, subst (Mem r.0) (sym (on_same (a ∷ h))) r.2));
+        (let r = v.named a h (path_wider (a ∷ h) p) b ((narrow a).leading b edge) φ (rw (narrow b).same_phis at m) in
+        (r.0, r.1, rw (on_same (a ∷ h)) r.2));
   }

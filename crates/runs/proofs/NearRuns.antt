@@ -1,5 +1,5 @@
 -- A run of a valid body is true to what is justly known; and another body, whose blocks come to the same wherever that holds, runs the same.
-use Rattle.std.proofs.Common.{◌≡◌, ℕ, zero, suc, ◌<◌, eqb, ltb, ◌⊎◌, List, [], ◌∷◌, ◌++◌, map, length, get_or, Some, None, Option, sym, refl, ◌∙◌, subst, inl, inr, append_assoc, append-nil, arith}
+use Rattle.std.proofs.Common.{◌≡◌, ℕ, zero, suc, ◌<◌, eqb, ltb, ◌⊎◌, List, [], ◌∷◌, ◌++◌, map, length, get_or, Some, None, Option, sym, refl, ◌∙◌, inl, inr, append_assoc, append-nil, arith}
 use mathlib.Core.List.{reverse_aux}
 use Rattle.hir.proofs.Members.{mem_left, mem_right, mem_split}
 use Rattle.hir.specs.Body.{block_at, graph_of}
@@ -25,10 +25,6 @@ abbrev Fine : World → Knowledge → List ℕ → Flow → Type 0
 Fine w κ xs (goes_on s) = True w κ s.assignments × Has s.assignments xs
 Fine w κ xs (ends e s) = True w κ s.assignments
 
-fine_fewer : (w : World) (κ : Knowledge) (xs ys : List ℕ) (f : Flow) → ((x : ℕ) → Mem x ys → Mem x xs) → Fine w κ xs f → Fine w κ ys f
-fine_fewer w κ xs ys (goes_on s) sub h = (h.0, (λ x m. h.1 x (sub x m)))
-fine_fewer w κ xs ys (ends e s) sub h = h
-
 fine_then : (w : World) (κ : Knowledge) (xs : List ℕ) (f : Flow) (R : Flow → Type 0) → Fine w κ xs f
     → ((u : State) → True w κ u.assignments → Has u.assignments xs → R (goes_on u)) → ((e : Ending) (u : State) → True w κ u.assignments → R (ends e u)) → R f
 fine_then w κ xs (goes_on u) R h on out = on u h.0 h.1
@@ -43,8 +39,9 @@ taking_fine : (w : World) (κ : Knowledge) (xs : List ℕ) (answers : List Answe
 taking_fine w κ [] answers t es D u tr h = (tr, h)
 taking_fine w κ (x ∷ xs) [] t es D u tr h = tr
 taking_fine w κ (x ∷ xs) (gives v ∷ answers) t es D u tr h =
-    fine_fewer w κ (xs ++ x ∷ D) (x ∷ xs ++ D) (taking xs answers (assigned x v ∷ t) es) (λ y m. moved y (x ∷ []) xs D m)
+    fine_then w κ (xs ++ x ∷ D) (taking xs answers (assigned x v ∷ t) es) (Fine w κ (x ∷ xs ++ D))
     (taking_fine w κ xs answers (assigned x v ∷ t) es (x ∷ D) (λ y m. u y (inr m)) (true_more w κ x v t tr (λ k e. cc (u x (inl refl)))) (λ y m. elim m [ inl e ↦ inl e | inr k ↦ inr (h y k) ]))
+    (λ s trs hs. (trs, (λ y m. hs y (moved y (x ∷ []) xs D m)))) (λ e s trs. trs)
 taking_fine w κ (x ∷ xs) (chooses k ∷ answers) t es D u tr h = tr
 
 just_fits : (w : World) (κ : Knowledge) (xs : List ℕ) (ys : List (Option Known)) (vs : List Value) → Justified κ xs ys → Computes w ys vs → Fitting w κ xs vs
@@ -107,21 +104,18 @@ mem-reverse a (x ∷ xs) ys m = let k = mem-reverse a xs (x ∷ ys) m in grind a
 
 module _ (w : World) (c : Conversions) (agree : Within c (always w.conversions)) (κ : Knowledge) (T T' : List (List ℕ)) (ps : List ℕ) (Bs Cs : List (Block Terminal))
     (valid : Valid ps Bs) (just : Just c T κ ps Bs) (near : (b : ℕ) → NearBlock w κ T T' (block_at Bs b) (block_at Cs b)) where
-  executed_near : (i j : Instruction) → Alike w κ T T' i j → (s : State) → True w κ s.assignments → Has s.assignments (reads i) → executed w T' j s ≡ executed w T i s
-  executed_near i j a s tr h = rw (a.writing, a.meant s.assignments tr h)
-
   module _ (b : ℕ) (h : List ℕ) (path : Path (graph_of Bs) (b ∷ h)) where
     -- the instructions after `before`
     code_near : (before is js : List Instruction) → (block_at Bs b).code ≡ before ++ is → NearCode w κ T T' is js → (s : State)
         → True w κ s.assignments → Has s.assignments (assigned_by ps Bs b before h)
         → (executed_all w T' js s ≡ executed_all w T is s) × Fine w κ (assigned_by ps Bs b (before ++ is) h) (executed_all w T is s)
-    code_near before [] [] e n s tr hs = (refl, (tr, (λ x m. hs x (subst (λ (l : List Instruction). Mem x (assigned_by ps Bs b l h)) (append-nil before) m))))
+    code_near before [] [] e n s tr hs = (refl, (tr, rw (append-nil before) hs))
     code_near before [] (j ∷ js) e n s tr hs = absurd n
     code_near before (i ∷ is) [] e n s tr hs = absurd n
     code_near before (i ∷ is) (j ∷ js) e n s tr hs =
         let D = assigned_by ps Bs b before h in
         let has_reads : Has s.assignments (reads i) = (λ x m. hs x (valid.code_used b h path before i is e x m)) in
-        let same = executed_near i j n.0 s tr has_reads in
+        let same : executed w T' j s ≡ executed w T i s = rw (n.0.writing, n.0.meant s.assignments tr has_reads) in
         let m = means w c agree κ s.assignments tr T i has_reads in
         let at : Mem i (block_at Bs b).code = rw e (mem_right i before (i ∷ is) (inl refl)) in
         let fine = performed_fine w κ (writes i) (yields c T κ i) (meaning w T i (map (value_of s.assignments) (reads i))) s D (just.coded b i at) m tr hs in
@@ -185,7 +179,7 @@ module _ (w : World) (c : Conversions) (agree : Within c (always w.conversions))
 
   phi_fits : (b : ℕ) (h : List ℕ) → Path (graph_of Bs) (b ∷ h) → (t : List Assignment) → True w κ t → Has t (assigned_on ps Bs h) → (φ : Phi) → Mem φ (block_at Bs b).phis
       → (k : Known) → κ φ.place ≡ Some k → phi_value (coming_from h) t φ ≡ in_world w k
-  phi_fits b h entry t tr hs φ m k e = absurd (subst (Mem φ) valid.clean m)
+  phi_fits b h entry t tr hs φ m k e = absurd (rw valid.clean at m)
   phi_fits b h (along {a = a} {b = d} {h = g} p edge) t tr hs φ m k e =
       let n = valid.named a g p b edge φ m in
       let o = operand_mem a φ.operands n.0 n.1 in
@@ -234,12 +228,9 @@ module _ (w : World) (c : Conversions) (agree : Within c (always w.conversions))
       on_exit (leaves a u) out rec = rec a (along p out.0) u out.1 out.2
       on_exit (halts e u) out rec = (refl, finished_true e (Some b) u out)
 
-  started_near : (n : ℕ) (f : Flow) → Fine w κ ps f → (started w T' Cs n f ≡ started w T Bs n f) × True w κ (started w T Bs n f).assignments
-  started_near n (goes_on s) fine = run_near n 0 [] entry s fine.0 fine.1
-  started_near n (ends e s) fine = (refl, finished_true e None s fine)
-
   pub runs_near : (answers : List Answer) (n : ℕ)
       → (started w T' Cs n (taking ps answers [] []) ≡ started w T Bs n (taking ps answers [] [])) × True w κ (started w T Bs n (taking ps answers [] [])).assignments
   runs_near answers n =
-      started_near n (taking ps answers [] [])
-      (fine_fewer w κ (ps ++ []) ps (taking ps answers [] []) (λ x m. mem_left x ps [] m) (taking_fine w κ ps answers [] [] [] just.outside (λ a m k e. absurd m) (λ x m. absurd m)))
+      fine_then w κ (ps ++ []) (taking ps answers [] []) (λ (f : Flow). (started w T' Cs n f ≡ started w T Bs n f) × True w κ (started w T Bs n f).assignments)
+      (taking_fine w κ ps answers [] [] [] just.outside (λ a m k e. absurd m) (λ x m. absurd m))
+      (λ s tr hs. run_near n 0 [] entry s tr (λ x m. hs x (mem_left x ps [] m))) (λ e s tr. (refl, finished_true e None s tr))

@@ -1,5 +1,5 @@
 -- What records say of the values in a run: a trace is true to them, and what was assigned is looked up as recorded.
-use Rattle.std.proofs.Common.{◌≡◌, ℕ, ◌⊎◌, List, [], ◌∷◌, map, Some, Option, sym, refl, ap, inl, inr, arith}
+use Rattle.std.proofs.Common.{◌≡◌, ℕ, ◌⊎◌, List, [], ◌∷◌, map, Some, Option, sym, refl, inl, inr, arith}
 use Rattle.ecma.specs.Value.{Primitive}
 use Rattle.hir.specs.Body.{Constant, global_constant, primitive_constant, record_at, text_at}
 use Rattle.hir.specs.Lists.{Mem}
@@ -51,7 +51,7 @@ true_look w κ (a ∷ t) x k tr m e =
     ]
 
 pub true_more : (w : World) (κ : Knowledge) (x : ℕ) (v : Value) (t : List Assignment) → True w κ t → ((k : Known) → κ x ≡ Some k → v ≡ in_world w k) → True w κ (assigned x v ∷ t)
-true_more w κ x v t tr f a (inl e) k h = rw (ap (λ (b : Assignment). b.value') e) (f k (rw (ap (λ (b : Assignment). b.place) e) at h))
+true_more w κ x v t tr f a (inl e) k h = rw e (f k (rw e at h))
 true_more w κ x v t tr f a (inr m) k h = tr a m k h
 
 -- ---- assigning values in order

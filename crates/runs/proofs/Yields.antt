@@ -52,7 +52,7 @@ yields c T κ (opaque k ys xs) = map (λ x. None) xs
 abbrev pub More : Knowledge → Knowledge → Type 0
 More κ μ = (x : ℕ) → Below (κ x) (μ x)
 
-module _ (κ μ : Knowledge) (m : (x : ℕ) → Below (κ x) (μ x)) where
+module _ (κ μ : Knowledge) (m : More κ μ) where
   prim_more : (y : ℕ) → Below (prim_at κ y) (prim_at μ y)
   prim_more y = bind_below (κ y) (μ y) prim_of prim_of (m y) (λ x k e. e)
 
