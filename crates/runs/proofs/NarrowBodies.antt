@@ -1,11 +1,11 @@
 -- A body stays valid where its blocks assign what they did, read no more and lead no further.
-use Rattle.std.proofs.Common.{◌≡◌, ℕ, suc, List, [], ◌∷◌, ◌++◌, map, length, refl, ap, ◌∙◌, arith}
+use Rattle.std.proofs.Common.{◌≡◌, ℕ, suc, List, [], ◌∷◌, ◌++◌, length, refl, ap, ◌∙◌, arith}
 use Rattle.hir.specs.Body.{block_at, graph_of}
 use Rattle.hir.specs.Graph.{Path, along, entry}
 use Rattle.hir.specs.Lists.{Mem, count, flat_map, total}
 use Rattle.hir.specs.Places.{reads, successors, terminal_reads, terminal_writes, writes}
 use Rattle.hir.specs.Script.{Block, Instruction, Terminal}
-use Rattle.runs.proofs.ValidBodies.{Valid, assigned_by, assigned_in, assigned_on, phi_places}
+use Rattle.runs.proofs.ValidBodies.{Valid, assigned_in, assigned_on}
 
 pub record NarrowStep (i j : Instruction) : Type 0 where
   pub writing : writes j ≡ writes i
@@ -55,18 +55,12 @@ total_same f (B ∷ Bs) [] l e = absurd (omega arith)
 total_same f (B ∷ Bs) (C ∷ Cs) l e = omega (arith, total_same f Bs Cs (omega arith) (λ b. e (suc b)), e 0)
 
 module _ (ps : List ℕ) (Bs Cs : List (Block Terminal)) (long : length Cs ≡ length Bs) (narrow : (b : ℕ) → NarrowBlock (block_at Bs b) (block_at Cs b)) where
-  places_same : (b : ℕ) → phi_places (block_at Cs b) ≡ phi_places (block_at Bs b)
-  places_same b = ap (map (λ φ. φ.place)) (narrow b).same_phis
-
   pub assigned_same : (b : ℕ) → assigned_in (block_at Cs b) ≡ assigned_in (block_at Bs b)
-  assigned_same b = rw (places_same b, code_writes (block_at Bs b).code (block_at Cs b).code (narrow b).code, (narrow b).binding)
+  assigned_same b = rw ((narrow b).same_phis, code_writes (block_at Bs b).code (block_at Cs b).code (narrow b).code, (narrow b).binding)
 
   on_same : (h : List ℕ) → assigned_on ps Cs h ≡ assigned_on ps Bs h
   on_same [] = refl
   on_same (b ∷ h) = rw (assigned_same b, on_same h)
-
-  by_same : (b : ℕ) (before front : List Instruction) (h : List ℕ) → flat_map writes before ≡ flat_map writes front → assigned_by ps Cs b before h ≡ assigned_by ps Bs b front h
-  by_same b before front h e = rw (places_same b, e, on_same h)
 
   pub path_wider : (h : List ℕ) → Path (graph_of Cs) h → Path (graph_of Bs) h
   path_wider h entry = entry
@@ -78,9 +72,9 @@ module _ (ps : List ℕ) (Bs Cs : List (Block Terminal)) (long : length Cs ≡ l
     clean = (narrow 0).same_phis ∙ v.clean;
     code_used = λ b h p before j after e x m.
         (let n = split_code (block_at Bs b).code before j after (rw e at (narrow b).code) in
-        rw (by_same b before n.0 h n.5) (v.code_used b h (path_wider (b ∷ h) p) n.0 n.1 n.2 n.3 x (n.4.reading x m)));
+        rw ((narrow b).same_phis, n.5, on_same h) (v.code_used b h (path_wider (b ∷ h) p) n.0 n.1 n.2 n.3 x (n.4.reading x m)));
     terminal_used = λ b h p x m.
-        rw (by_same b (block_at Cs b).code (block_at Bs b).code h (code_writes (block_at Bs b).code (block_at Cs b).code (narrow b).code)) (v.terminal_used b h (path_wider (b ∷ h) p) x ((narrow b).asking x m));
+        rw ((narrow b).same_phis, code_writes (block_at Bs b).code (block_at Cs b).code (narrow b).code, on_same h) (v.terminal_used b h (path_wider (b ∷ h) p) x ((narrow b).asking x m));
     named = λ a h p b edge φ m.
         (let r = v.named a h (path_wider (a ∷ h) p) b ((narrow a).leading b edge) φ (rw (narrow b).same_phis at m) in
         (r.0, r.1, rw (on_same (a ∷ h)) r.2));

@@ -11,34 +11,31 @@ use Rattle.std.proofs.lemmas.Bool.{cases_eq}
 total_one : (f : Block Terminal → ℕ) → f (block_at [] 0) ≡ 0 → (Bs : List (Block Terminal)) (b : ℕ) → f (block_at Bs b) ≤ total f Bs
 total_one f z [] b = omega arith
 total_one f z (B ∷ Bs) zero = omega arith
-total_one f z (B ∷ Bs) (suc b) = let ih = total_one f z Bs b in omega arith
+total_one f z (B ∷ Bs) (suc b) = omega (arith, total_one f z Bs b)
 
 total_two : (f : Block Terminal → ℕ) → f (block_at [] 0) ≡ 0 → (Bs : List (Block Terminal)) (b c : ℕ) → (b ≡ c → ⊥) → f (block_at Bs b) + f (block_at Bs c) ≤ total f Bs
 total_two f z [] b c n = omega arith
 total_two f z (B ∷ Bs) zero zero n = absurd (n refl)
-total_two f z (B ∷ Bs) zero (suc c) n = let one = total_one f z Bs c in omega arith
-total_two f z (B ∷ Bs) (suc b) zero n = let one = total_one f z Bs b in omega arith
-total_two f z (B ∷ Bs) (suc b) (suc c) n = let ih = total_two f z Bs b c (λ e. n (ap suc e)) in omega arith
+total_two f z (B ∷ Bs) zero (suc c) n = omega (arith, total_one f z Bs c)
+total_two f z (B ∷ Bs) (suc b) zero n = omega (arith, total_one f z Bs b)
+total_two f z (B ∷ Bs) (suc b) (suc c) n = omega (arith, total_two f z Bs b c (λ e. n (ap suc e)))
 
 module _ (ps : List ℕ) (Bs : List (Block Terminal)) (valid : Valid ps Bs) where
   -- how often x is assigned from outside and in a block, part by part
   parts : (x b : ℕ) → count x ps + (count x (phi_places (block_at Bs b)) + (count x (flat_map writes (block_at Bs b).code) + count x (terminal_writes (block_at Bs b).terminal))) ≤ 1
   parts x b =
-      let one = total_one (λ B. count x (assigned_in B)) refl Bs b in
-      let v = valid.once x in
-      omega (arith, count-append)
+      omega (arith, count-append, total_one (λ B. count x (assigned_in B)) refl Bs b, valid.once x)
 
   pub one_block : (x b c : ℕ) → Mem x (assigned_in (block_at Bs b)) → Mem x (assigned_in (block_at Bs c)) → b ≡ c
   one_block x b c m n =
       elim (cases_eq b c) [
         | inl e ↦ e
-        | inr ne ↦ (let two = total_two (λ B. count x (assigned_in B)) refl Bs b c ne in let v = valid.once x in absurd (omega (arith, mem-count)))
+        | inr ne ↦ absurd (omega (arith, mem-count, total_two (λ B. count x (assigned_in B)) refl Bs b c ne, valid.once x))
       ]
 
   pub not_outside : (x b : ℕ) → Mem x ps → Mem x (assigned_in (block_at Bs b)) → ⊥
   not_outside x b m n =
-      let p = parts x b in
-      omega (arith, mem-count, count-append)
+      omega (arith, mem-count, count-append, parts x b)
 
   -- where an instruction writes x, nothing else of its block does
   pub one_instruction : (x b : ℕ) (before : List Instruction) (i : Instruction) (after : List Instruction) → (block_at Bs b).code ≡ before ++ i ∷ after → Mem x (writes i)

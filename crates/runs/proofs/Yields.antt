@@ -8,7 +8,7 @@ use Rattle.hir.specs.Body.{text_at}
 use Rattle.hir.specs.Lists.{Mem}
 use Rattle.hir.specs.Places.{binding_name, reads}
 use Rattle.hir.specs.Script.{Instruction}
-use Rattle.hir.specs.Script.{load_local, store_local, primitive, binary, unary, property_store, property_load, computed_store, computed_load, load_global, template, prefix_update, postfix_update, start_memoize, opaque}
+use Rattle.hir.specs.Script.{load_local, store_local, primitive, binary, unary, property_load, computed_load, load_global, template, prefix_update, postfix_update, opaque}
 use Rattle.runs.proofs.Monotone.{AllBelow, Below, bind_below, fold_below, mapped_below, maps_below, within_self}
 use Rattle.runs.proofs.Senses.{Computes, Has, Known, Knowledge, True, glob, in_world, prim, true_look}
 use Rattle.runs.specs.Folds.{Conversions, Within, always, bind, fold, key_value, length_fold, literal_value, updated}
@@ -30,22 +30,16 @@ new_at κ o y = option_map (λ (x : Float). prim (value.number x)) (bind (prim_a
 abbrev pub old_at : Knowledge → UpdateOperator → ℕ → Option Known
 old_at κ o y = bind (bind (prim_at κ y) (updated o)) (λ x. κ y)
 
+-- what else folds gives what it folds to; the others give nothing
 abbrev pub yields : Conversions → List (List ℕ) → Knowledge → Instruction → List (Option Known)
 yields c T κ (load_local x y s) = κ y ∷ []
 yields c T κ (store_local x p k y s) = κ y ∷ κ y ∷ []
 yields c T κ (primitive x l s) = Some (prim (literal_value T l)) ∷ []
-yields c T κ (binary x o y z s) = option_map prim (fold c T (binary x o y z s) (map (prim_at κ) (y ∷ z ∷ []))) ∷ []
-yields c T κ (unary x o y s) = option_map prim (fold c T (unary x o y s) (map (prim_at κ) (y ∷ []))) ∷ []
-yields c T κ (property_store x o p v s) = None ∷ []
-yields c T κ (property_load x o p s) = option_map prim (fold c T (property_load x o p s) (map (prim_at κ) (o ∷ []))) ∷ []
-yields c T κ (computed_store x o p v s) = None ∷ []
-yields c T κ (computed_load x o p s) = None ∷ []
 yields c T κ (load_global x b s) = Some (glob (text_at T (binding_name b))) ∷ []
-yields c T κ (template x ys qs s) = option_map prim (fold c T (template x ys qs s) (map (prim_at κ) ys)) ∷ []
 yields c T κ (prefix_update x p o y s) = new_at κ o y ∷ new_at κ o y ∷ []
 yields c T κ (postfix_update x p o y s) = old_at κ o y ∷ new_at κ o y ∷ []
-yields c T κ (start_memoize x m ds i s) = None ∷ []
 yields c T κ (opaque k ys xs) = map (λ x. None) xs
+yields c T κ i = option_map prim (fold c T i (map (prim_at κ) (reads i))) ∷ []
 
 -- ---- more knowledge yields more
 
@@ -65,20 +59,18 @@ module _ (κ μ : Knowledge) (m : More κ μ) where
   old_more : (o : UpdateOperator) (y : ℕ) → Below (old_at κ o y) (old_at μ o y)
   old_more o y = bind_below _ _ _ _ (updated_more o y) (λ x. m y)
 
-  fold_more : (c : Conversions) (T : List (List ℕ)) (i : Instruction) (ys : List ℕ) → Below (option_map prim (fold c T i (map (prim_at κ) ys))) (option_map prim (fold c T i (map (prim_at μ) ys)))
-  fold_more c T i ys = mapped_below prim _ _ (fold_below c c (within_self c) T i _ _ (maps_below (prim_at κ) (prim_at μ) prim_more ys))
+  fold_more : (c : Conversions) (T : List (List ℕ)) (i : Instruction) → Below (option_map prim (fold c T i (map (prim_at κ) (reads i)))) (option_map prim (fold c T i (map (prim_at μ) (reads i))))
+  fold_more c T i = mapped_below prim _ _ (fold_below c c (within_self c) T i (map (prim_at κ) (reads i)) (map (prim_at μ) (reads i)) (maps_below (prim_at κ) (prim_at μ) prim_more (reads i)))
 
   pub yields_more : (c : Conversions) (T : List (List ℕ)) (i : Instruction) → AllBelow (yields c T κ i) (yields c T μ i)
   yields_more c T (load_local x y s) = (m y, tt)
   yields_more c T (store_local x p k y s) = (m y, (m y, tt))
-  yields_more c T (binary x o y z s) = (fold_more c T (binary x o y z s) (y ∷ z ∷ []), tt)
-  yields_more c T (unary x o y s) = (fold_more c T (unary x o y s) (y ∷ []), tt)
-  yields_more c T (property_load x o p s) = (fold_more c T (property_load x o p s) (o ∷ []), tt)
-  yields_more c T (template x ys qs s) = (fold_more c T (template x ys qs s) ys, tt)
+  yields_more c T (primitive x l s) = ((λ k e. e), tt)
+  yields_more c T (load_global x b s) = ((λ k e. e), tt)
   yields_more c T (prefix_update x p o y s) = (new_more o y, (new_more o y, tt))
   yields_more c T (postfix_update x p o y s) = (old_more o y, (new_more o y, tt))
   yields_more c T (opaque k ys xs) = maps_below _ _ (λ x k e. e) xs
-  yields_more c T i = ((λ k e. e), tt)
+  yields_more c T i = (fold_more c T i, tt)
 
 -- ---- and a run computes it
 
