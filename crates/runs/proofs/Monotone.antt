@@ -1,5 +1,5 @@
 -- What folds with fewer answers, or with fewer values known, folds to the same with more.
-use Rattle.std.proofs.Common.{◌≡◌, ℕ, suc, Bool, true, false, cond, ◌||◌, eqb, List, [], ◌∷◌, map, length, Some, None, Option, refl, ap}
+use Rattle.std.proofs.Common.{arith, ◌≡◌, ℕ, suc, Bool, cond, ◌||◌, eqb, List, [], ◌∷◌, map, length, Some, None, Option, refl, ap}
 use lib.Ieee.{Float}
 use Rattle.ecma.specs.Comparison.{is_loosely_equal}
 use Rattle.ecma.specs.declared.operators.BinaryOperator.{BinaryOperator}
@@ -83,8 +83,7 @@ same_shape (p ∷ ps) (q ∷ qs) b = (refl, ap suc (same_shape ps qs b.1).1)
 same_shape ps qs b = absurd b
 
 cond_below : (b : Bool) (p q : Option (List ℕ)) → Below p q → Below (cond b p None) (cond b q None)
-cond_below true p q m t e = m t e
-cond_below false p q m t e = e
+cond_below b p q m t e = grind (arith, m)
 
 template_below : (qs ps rs : List (Option (List ℕ))) → AllBelow ps rs → Below (template_fold qs ps) (template_fold qs rs)
 template_below qs ps rs b =

@@ -20,7 +20,7 @@ use Rattle.std.specs.Option.{option_map}
 abbrev pub SameTexts : List (List ℕ) → List (List ℕ) → List ℕ → Type 0
 SameTexts T T' ts = (t : ℕ) → Mem t ts → text_at T' t ≡ text_at T t
 
--- That a text keeps its number where others are added is std's `get_or_append_left`, and the number of the one that is added `get_or_push`.
+-- A number below `length T` names the same text in `T ++ U` by std's `get_or_append_left`, and `length T` the text that is added by `get_or_push`.
 
 -- ---- what instructions hold
 

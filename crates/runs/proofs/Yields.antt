@@ -25,7 +25,7 @@ prim_at κ y = bind (κ y) prim_of
 
 -- the Number after an update, and what the place had before it, if that is a Number
 abbrev pub new_at : Knowledge → UpdateOperator → ℕ → Option Known
-new_at κ o y = option_map (λ (x : Float). prim (value.number x)) (bind (prim_at κ y) (updated o))
+new_at κ o y = bind (bind (prim_at κ y) (updated o)) (λ x. Some (prim (value.number x)))
 
 abbrev pub old_at : Knowledge → UpdateOperator → ℕ → Option Known
 old_at κ o y = bind (bind (prim_at κ y) (updated o)) (λ x. κ y)
@@ -54,7 +54,7 @@ module _ (κ μ : Knowledge) (m : More κ μ) where
   updated_more o y = bind_below _ _ _ _ (prim_more y) (λ x k e. e)
 
   new_more : (o : UpdateOperator) (y : ℕ) → Below (new_at κ o y) (new_at μ o y)
-  new_more o y = mapped_below _ _ _ (updated_more o y)
+  new_more o y = bind_below _ _ _ _ (updated_more o y) (λ x k e. e)
 
   old_more : (o : UpdateOperator) (y : ℕ) → Below (old_at κ o y) (old_at μ o y)
   old_more o y = bind_below _ _ _ _ (updated_more o y) (λ x. m y)
@@ -106,8 +106,8 @@ module _ (w : World) (c : Conversions) (agree : Within c (always w.conversions))
   told (Some u) None k vs b = (cc (b u refl), tt)
   told (Some u) (Some v) k vs b = ((λ j e. ap plain (same_Some v u (b u refl)) ∙ ap (in_world w) (same_Some (prim u) j e)), tt)
 
-  folds : (T : List (List ℕ)) (i : Instruction) (ys : List ℕ) → Has t ys → Below (fold c T i (map (prim_at κ) ys)) (fold (always w.conversions) T i (map primitive_in (map (value_of t) ys)))
-  folds T i ys h = fold_below c (always w.conversions) agree T i _ _ (prims_look ys h)
+  folds : (T : List (List ℕ)) (i : Instruction) → Has t (reads i) → Below (fold c T i (map (prim_at κ) (reads i))) (fold (always w.conversions) T i (map primitive_in (map (value_of t) (reads i))))
+  folds T i h = fold_below c (always w.conversions) agree T i _ _ (prims_look (reads i) h)
 
   getting_as : (T : List (List ℕ)) (x o : ℕ) (p : _) (s : _) (v : Value) → fold (always w.conversions) T (property_load x o p s) (primitive_in v ∷ []) ≡ length_fold (primitive_in v) (Some (key_value T p))
   getting_as T x o p s v = grind arith
@@ -120,35 +120,29 @@ module _ (w : World) (c : Conversions) (agree : Within c (always w.conversions))
   nothing [] = tt
   nothing (x ∷ xs) = (refl, nothing xs)
 
-  prefix_means : (k : EventKind) (v : Value) (n r : Option Float) → Below n r
-      → Means w (option_map (λ x. prim (value.number x)) n ∷ option_map (λ x. prim (value.number x)) n ∷ []) (updating (λ old new. new ∷ new ∷ []) k v r)
-  prefix_means k v None None b = (refl, (refl, tt))
-  prefix_means k v None (Some x) b = ((λ j e. cc), ((λ j e. cc), tt))
-  prefix_means k v (Some x) None b = (cc (b x refl), (cc (b x refl), tt))
-  prefix_means k v (Some x) (Some z) b =
-      let one = λ (j : Known) (e : Some (prim (value.number x)) ≡ Some j). ap (λ (f : Float). plain (value.number f)) (same_Some z x (b x refl)) ∙ ap (in_world w) (same_Some (prim (value.number x)) j e) in
-      (one, (one, tt))
-
-  postfix_means : (k : EventKind) (v : Value) (old : Option Known) (n r : Option Float) → Below n r → ((j : Known) → old ≡ Some j → v ≡ in_world w j)
-      → Means w (bind n (λ x. old) ∷ option_map (λ x. prim (value.number x)) n ∷ []) (updating (λ old new. old ∷ new ∷ []) k v r)
-  postfix_means k v old None None b f = (refl, (refl, tt))
-  postfix_means k v old None (Some x) b f = ((λ j e. cc), ((λ j e. cc), tt))
-  postfix_means k v old (Some x) None b f = (cc (b x refl), (cc (b x refl), tt))
-  postfix_means k v old (Some x) (Some z) b f = (f, ((prefix_means k v (Some x) (Some z) b).0, tt))
+  updates_mean : (f : Value → Value → Value) (first : Float → Option Known) (k : EventKind) (v : Value) (n r : Option Float) → Below n r
+      → ((x : Float) (j : Known) → first x ≡ Some j → f v (plain (value.number x)) ≡ in_world w j)
+      → Means w (bind n first ∷ bind n (λ x. Some (prim (value.number x))) ∷ []) (updating (λ old new. f old new ∷ new ∷ []) k v r)
+  updates_mean f first k v None None b g = (refl, (refl, tt))
+  updates_mean f first k v None (Some z) b g = ((λ j e. cc), ((λ j e. cc), tt))
+  updates_mean f first k v (Some x) None b g = (cc (b x refl), (cc (b x refl), tt))
+  updates_mean f first k v (Some x) (Some z) b g =
+      let same = same_Some z x (b x refl) in
+      ((λ j e. rw same (g x j e)), ((λ j e. rw same (ap (in_world w) (same_Some (prim (value.number x)) j e))), tt))
 
   -- What is yielded is what the instruction comes to in a run, where all that it reads has been assigned.
   pub means : (T : List (List ℕ)) (i : Instruction) → Has t (reads i) → Means w (yields c T κ i) (meaning w T i (map (value_of t) (reads i)))
   means T (load_local x y s) h = (look y (h y (inl refl)), tt)
   means T (store_local x p k y s) h = (look y (h y (inl refl)), (look y (h y (inl refl)), tt))
   means T (primitive x l s) h = ((λ k e. ap (in_world w) (same_Some (prim (literal_value T l)) k e)), tt)
-  means T (binary x o y z s) h = told _ _ _ _ (folds T (binary x o y z s) (y ∷ z ∷ []) h)
-  means T (unary x o y s) h = told _ _ _ _ (folds T (unary x o y s) (y ∷ []) h)
+  means T (binary x o y z s) h = told _ _ _ _ (folds T (binary x o y z s) h)
+  means T (unary x o y s) h = told _ _ _ _ (folds T (unary x o y s) h)
   means T (property_load x o p s) h =
-      told _ _ _ _ (subst (λ (r : Option Primitive). Below (fold c T (property_load x o p s) (map (prim_at κ) (o ∷ []))) r) (getting_as T x o p s (value_of t o)) (folds T (property_load x o p s) (o ∷ []) h))
+      told _ _ _ _ (subst (λ (r : Option Primitive). Below (fold c T (property_load x o p s) (map (prim_at κ) (o ∷ []))) r) (getting_as T x o p s (value_of t o)) (folds T (property_load x o p s) h))
   means T (computed_load x o p s) h = told None (length_fold (primitive_in (value_of t o)) (primitive_in (value_of t p))) _ _ (λ v e. cc)
   means T (load_global x b s) h = ((λ k e. ap (in_world w) (same_Some (glob (text_at T (binding_name b))) k e)), tt)
-  means T (template x ys qs s) h = told _ _ _ _ (folds T (template x ys qs s) ys h)
-  means T (prefix_update x p o y s) h = prefix_means _ _ _ _ (updates o y h)
-  means T (postfix_update x p o y s) h = postfix_means _ _ (κ y) _ _ (updates o y h) (look y (h y (inl refl)))
+  means T (template x ys qs s) h = told _ _ _ _ (folds T (template x ys qs s) h)
+  means T (prefix_update x p o y s) h = updates_mean (λ old new. new) _ _ _ _ _ (updates o y h) (λ x j e. ap (in_world w) (same_Some (prim (value.number x)) j e))
+  means T (postfix_update x p o y s) h = updates_mean (λ old new. old) (λ x. κ y) _ _ _ _ (updates o y h) (λ x. look y (h y (inl refl)))
   means T (opaque k ys xs) h = nothing xs
   means T i h = (refl, tt)
