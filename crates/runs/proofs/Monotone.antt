@@ -73,8 +73,7 @@ alternately_below (q ∷ qs) ps rs b = absurd b
 join_below : (ps qs : List (Option (List ℕ))) → AllBelow ps qs → Below (join_all ps) (join_all qs)
 join_below [] [] b t e = e
 join_below (None ∷ ps) (q ∷ qs) b t e = cc
-join_below (Some u ∷ ps) (q ∷ qs) b t e =
-    rw (b.0 u refl) (mapped_below _ (join_all ps) (join_all qs) (join_below ps qs b.1) t e)
+join_below (Some u ∷ ps) (q ∷ qs) b t e = rw (b.0 u refl) (mapped_below _ (join_all ps) (join_all qs) (join_below ps qs b.1) t e)
 join_below ps qs b t e = absurd b
 
 same_shape : (ps qs : List (Option (List ℕ))) → AllBelow ps qs → (is_empty ps ≡ is_empty qs) × (length ps ≡ length qs)

@@ -50,9 +50,8 @@ split_code (i ∷ is) (k ∷ before) j after n =
 
 pub total_same : (f : Block Terminal → ℕ) (Bs Cs : List (Block Terminal)) → length Cs ≡ length Bs → ((b : ℕ) → f (block_at Cs b) ≡ f (block_at Bs b)) → total f Cs ≡ total f Bs
 total_same f [] [] l e = refl
-total_same f [] (C ∷ Cs) l e = absurd (omega arith)
-total_same f (B ∷ Bs) [] l e = absurd (omega arith)
 total_same f (B ∷ Bs) (C ∷ Cs) l e = omega (arith, total_same f Bs Cs (omega arith) (λ b. e (suc b)), e 0)
+total_same f Bs Cs l e = absurd (omega arith)
 
 module _ (ps : List ℕ) (Bs Cs : List (Block Terminal)) (long : length Cs ≡ length Bs) (narrow : (b : ℕ) → NarrowBlock (block_at Bs b) (block_at Cs b)) where
   pub assigned_same : (b : ℕ) → assigned_in (block_at Cs b) ≡ assigned_in (block_at Bs b)
