@@ -1,5 +1,6 @@
 -- The Ifs of all blocks and those that were turned are together those that were sealed.
 use Rattle.std.proofs.lemmas.Bool.{cond_both}
+use Rattle.std.proofs.lemmas.List.Elements.{recursion_from_All}
 use Rattle.std.proofs.Common.{◌≡◌, ℕ, zero, suc, ◌+◌, ◌≤◌, eqb, List, [], ◌∷◌, length, get_or, set, is_some, Some, None, Option, refl, ◌∙◌, add-zero, arith}
 use Rattle.hir.specs.Body.{Body, Test, block_at, count_ifs, graph_of, if_of, sealing}
 use Rattle.hir.specs.Graph.{walked}
@@ -12,7 +13,6 @@ use Rattle.runs.specs.Folds.{bind}
 use Rattle.runs.specs.Rounds.{Evaluation, HostMeaning, Room, applied, evaluation, goto_of, known, standing, standing_from, turned, turned_to, with_code, with_terminal}
 use Rattle.runs.specs.Tidies.{Elimination, block_tidied, eliminated, pass, passes, pruned, pruned_all, tidy}
 use Rattle.std.specs.Option.{option_map}
-use Rattle.std.specs.List.{AllByRecursion}
 
 pub record Counted (B : Body) : Type 0 where
   pub all : count_ifs B.blocks + B.turned_ifs ≡ B.sealed_ifs
@@ -78,15 +78,11 @@ tidy_counted B c =
 
 -- ---- all calls
 
-every : (bs : List ℕ) → AllByRecursion (λ b. Unit {0}) bs
-every [] = tt
-every (b ∷ bs) = (tt, every bs)
-
 calls_counted : (host : HostMeaning) (start : Body) → Counted start → (g : Stage) (now : Body) (l : Last) → Calls host start g now l → Counted now
 calls_counted host start c g now l begun = c
 calls_counted host start c g now l (rounded {B = B} {l = k} room cs z) =
     round_keeps host room Counted (λ b. Unit {0}) (λ b C q z p. record { all = p.all }) (λ n b k i rest C q e p. applied_counted room n b k C p (evaluation host C i))
-    (λ b C q p. turned_counted b C p) B (every (standing B)) z (calls_counted host start c _ B k cs)
+    (λ b C q p. turned_counted b C p) B (recursion_from_All (λ b. Unit {0}) (standing B) (λ k b l. tt)) z (calls_counted host start c _ B k cs)
 calls_counted host start c g now l (tidying {g = h} {B = B} {l = k} cs) = tidy_counted B (calls_counted host start c h B k cs)
 calls_counted host start c g now l (asking {g = h} {B = B} {l = k} q cs) = calls_counted host start c h B k cs
 

@@ -1,10 +1,11 @@
 -- What is kept from the seal on: the body is valid, what it records is justified, and its runs tell what the sealed body's do.
-use Rattle.std.proofs.Common.{◌≡◌, ℕ, ◌<◌, ◌⊎◌, List, [], ◌∷◌, length, Some, refl, inl, inr}
+use Rattle.std.proofs.Common.{◌≡◌, ℕ, ◌<◌, ◌⊎◌, List, length, Some, refl, inl, inr}
 use Rattle.hir.specs.Body.{Body, Constant, block_at, record_at}
 use Rattle.hir.specs.Lists.{Mem}
 use Rattle.hir.specs.Places.{texts_named}
 use Rattle.hir.specs.Script.{Block, Instruction, Terminal}
-use Rattle.runs.proofs.NearRuns.{NearBlock, NearCode, runs_near}
+use Rattle.runs.proofs.Monotone.{zip_self}
+use Rattle.runs.proofs.NearRuns.{Alike, NearBlock, runs_near}
 use Rattle.runs.proofs.Senses.{Known, Knowledge, True, knowledge}
 use Rattle.runs.proofs.TextsKept.{constant_texts}
 use Rattle.runs.proofs.ValidBodies.{Just, Valid, assigned_in}
@@ -43,12 +44,8 @@ pub record Inv (host : HostMeaning) (S B : Body) : Type 0 where
 
 -- ---- a body is near itself
 
-near_code_self : (w : World) (κ : Knowledge) (T : List (List ℕ)) (is : List Instruction) → NearCode w κ T T is is
-near_code_self w κ T [] = tt
-near_code_self w κ T (i ∷ is) = (record { writing = refl; meant = λ t tr h. refl }, near_code_self w κ T is)
-
 pub near_self : (w : World) (κ : Knowledge) (T : List (List ℕ)) (B : Block Terminal) → NearBlock w κ T T B B
-near_self w κ T B = record { same_phis = refl; near_code = near_code_self w κ T B.code; binding = refl; turning = λ t tr h. refl }
+near_self w κ T B = record { same_phis = refl; near_code = zip_self (Alike w κ T T) (λ i. record { writing = refl; meant = λ t tr h. refl }) B.code; binding = refl; turning = λ t tr h. refl }
 
 -- ---- steps whose runs are the same
 

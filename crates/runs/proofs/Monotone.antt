@@ -1,5 +1,5 @@
 -- What folds with fewer answers, or with fewer values known, folds to the same with more.
-use Rattle.std.proofs.Common.{arith, ◌≡◌, ℕ, suc, Bool, cond, ◌||◌, eqb, List, [], ◌∷◌, map, length, Some, None, Option, refl, ap}
+use Rattle.std.proofs.Common.{arith, ◌≡◌, ℕ, suc, Bool, cond, ◌||◌, eqb, List, [], ◌∷◌, map, length, Some, None, Option, refl}
 use lib.Ieee.{Float}
 use Rattle.ecma.specs.Comparison.{is_loosely_equal}
 use Rattle.ecma.specs.declared.operators.BinaryOperator.{BinaryOperator}
@@ -9,6 +9,8 @@ use Rattle.ecma.specs.Value.{Primitive, boolean, number, string}
 use Rattle.hir.specs.Script.{Instruction}
 use Rattle.hir.specs.Script.{binary, unary, property_load, template}
 use Rattle.runs.specs.Folds.{Conversions, Within, alternately, at_both, at_first, bind, cooked_texts, fold, is_empty, join_all, piece_text, template_fold}
+use Rattle.std.proofs.lemmas.List.Elements.{length_all_zip}
+use Rattle.std.specs.List.{AllZip}
 use Rattle.std.specs.Option.{option_map}
 
 -- q has what p has, if p has anything
@@ -17,13 +19,14 @@ Below {A} p q = (x : A) → p ≡ Some x → q ≡ Some x
 
 -- place by place
 abbrev pub AllBelow : {A : Type 0} → List (Option A) → List (Option A) → Type 0
-AllBelow [] [] = Unit {0}
-AllBelow (p ∷ ps) (q ∷ qs) = Below p q × AllBelow ps qs
-AllBelow ps qs = ⊥
+AllBelow ps qs = AllZip (λ p q. Below p q) ps qs
+
+pub zip_self : {A : Type 0} (R : A → A → Type 0) → ((x : A) → R x x) → (xs : List A) → AllZip R xs xs
+zip_self R h [] = tt
+zip_self R h (x ∷ xs) = (h x, zip_self R h xs)
 
 pub all_same : {A : Type 0} (ps : List (Option A)) → AllBelow ps ps
-all_same [] = tt
-all_same (p ∷ ps) = ((λ x e. e), all_same ps)
+all_same ps = zip_self _ (λ p x e. e) ps
 
 pub maps_below : {A B : Type 0} (f g : A → Option B) → ((x : A) → Below (f x) (g x)) → (xs : List A) → AllBelow (map f xs) (map g xs)
 maps_below f g h [] = tt
@@ -76,18 +79,17 @@ join_below (None ∷ ps) (q ∷ qs) b t e = cc
 join_below (Some u ∷ ps) (q ∷ qs) b t e = rw (b.0 u refl) (mapped_below _ (join_all ps) (join_all qs) (join_below ps qs b.1) t e)
 join_below ps qs b t e = absurd b
 
-same_shape : (ps qs : List (Option (List ℕ))) → AllBelow ps qs → (is_empty ps ≡ is_empty qs) × (length ps ≡ length qs)
-same_shape [] [] b = (refl, refl)
-same_shape (p ∷ ps) (q ∷ qs) b = (refl, ap suc (same_shape ps qs b.1).1)
-same_shape ps qs b = absurd b
+empty_below : (ps qs : List (Option (List ℕ))) → AllBelow ps qs → is_empty ps ≡ is_empty qs
+empty_below [] [] b = refl
+empty_below (p ∷ ps) (q ∷ qs) b = refl
+empty_below ps qs b = absurd b
 
 cond_below : (b : Bool) (p q : Option (List ℕ)) → Below p q → Below (cond b p None) (cond b q None)
 cond_below b p q m t e = grind (arith, m)
 
 template_below : (qs ps rs : List (Option (List ℕ))) → AllBelow ps rs → Below (template_fold qs ps) (template_fold qs rs)
 template_below qs ps rs b =
-    let same = same_shape ps rs b in
-    rw (← same.0, ← same.1) (cond_below (is_empty ps || eqb (length qs) (suc (length ps))) _ _ (join_below (alternately qs ps) (alternately qs rs) (alternately_below qs ps rs b)))
+    rw (← empty_below ps rs b, ← length_all_zip _ ps rs b) (cond_below (is_empty ps || eqb (length qs) (suc (length ps))) _ _ (join_below (alternately qs ps) (alternately qs rs) (alternately_below qs ps rs b)))
 
 -- ---- instructions
 

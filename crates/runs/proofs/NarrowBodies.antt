@@ -5,6 +5,8 @@ use Rattle.hir.specs.Graph.{Path, along, entry}
 use Rattle.hir.specs.Lists.{Mem, count, flat_map, total}
 use Rattle.hir.specs.Places.{reads, successors, terminal_reads, terminal_writes, writes}
 use Rattle.hir.specs.Script.{Block, Instruction, Terminal}
+use Rattle.std.specs.List.{AllZip}
+use Rattle.runs.proofs.Monotone.{zip_self}
 use Rattle.runs.proofs.ValidBodies.{Valid, assigned_in, assigned_on}
 
 pub record NarrowStep (i j : Instruction) : Type 0 where
@@ -12,9 +14,7 @@ pub record NarrowStep (i j : Instruction) : Type 0 where
   pub reading : (x : ℕ) → Mem x (reads j) → Mem x (reads i)
 
 abbrev pub NarrowCode : List Instruction → List Instruction → Type 0
-NarrowCode [] [] = Unit {0}
-NarrowCode (i ∷ is) (j ∷ js) = NarrowStep i j × NarrowCode is js
-NarrowCode is js = ⊥
+NarrowCode is js = AllZip NarrowStep is js
 
 pub record NarrowBlock (B C : Block Terminal) : Type 0 where
   pub same_phis : C.phis ≡ B.phis
@@ -27,8 +27,7 @@ pub same_step : (i : Instruction) → NarrowStep i i
 same_step i = record { writing = refl; reading = λ x m. m }
 
 pub same_code : (is : List Instruction) → NarrowCode is is
-same_code [] = tt
-same_code (i ∷ is) = (same_step i, same_code is)
+same_code is = zip_self NarrowStep same_step is
 
 pub same_block : (B : Block Terminal) → NarrowBlock B B
 same_block B = record { same_phis = refl; code = same_code B.code; binding = refl; asking = λ x m. m; leading = λ a m. m }

@@ -9,6 +9,7 @@ use Rattle.hir.specs.Places.{reads, successors, terminal_reads, terminal_writes,
 use Rattle.hir.specs.Script.{Block, Instruction, Operand, Phi, Terminal}
 use Rattle.runs.proofs.Senses.{Computes, Fitting, Has, Known, Knowledge, True, assigning_has, assigning_true, in_world, true_look, true_more}
 use Rattle.runs.proofs.ValidBodies.{Just, Justified, Valid, assigned_by, assigned_on, flat_append, phi_places}
+use Rattle.std.specs.List.{AllZip}
 use Rattle.runs.proofs.Yields.{Means, Nothing, means, yields}
 use Rattle.runs.specs.Folds.{Conversions, Within, always}
 use Rattle.runs.specs.Runs.{Answer, Assignment, Ending, Event, Exit, Flow, Meaning, State, Turn, Value, World, and_then, assigned, block_run, blocks_out, chooses, choosing, computes, continued, ends, executed, executed_all, exited, exited_by, finished, forks, gives, goes_on, halts, jumps, leaves, meaning, operand_from, performed, phi_value, phis_assigned, run_from, started, state, stops, taken, taking, tells, turn_of, turned_by, value_of}
@@ -83,9 +84,7 @@ pub record Alike (w : World) (κ : Knowledge) (T T' : List (List ℕ)) (i j : In
   pub meant : (t : List Assignment) → True w κ t → Has t (reads i) → meaning w T' j (map (value_of t) (reads j)) ≡ meaning w T i (map (value_of t) (reads i))
 
 abbrev pub NearCode : World → Knowledge → (T T' : List (List ℕ)) → List Instruction → List Instruction → Type 0
-NearCode w κ T T' [] [] = Unit {0}
-NearCode w κ T T' (i ∷ is) (j ∷ js) = Alike w κ T T' i j × NearCode w κ T T' is js
-NearCode w κ T T' is js = ⊥
+NearCode w κ T T' is js = AllZip (Alike w κ T T') is js
 
 pub record NearBlock (w : World) (κ : Knowledge) (T T' : List (List ℕ)) (B C : Block Terminal) : Type 0 where
   pub same_phis : C.phis ≡ B.phis
