@@ -1,21 +1,18 @@
 -- The Ifs of all blocks and those that were turned are together those that were sealed.
-use Rattle.std.proofs.Common.{◌≡◌, ℕ, zero, suc, ◌+◌, ◌≤◌, Bool, true, false, cond, eqb, List, [], ◌∷◌, length, get_or, set, is_some, Some, None, Option, refl, ap, ◌∙◌, add-zero, arith}
-use Rattle.ecma.specs.Value.{Primitive}
-use Rattle.ecma.specs.Value as value
+use Rattle.std.proofs.lemmas.Bool.{cond_both}
+use Rattle.std.proofs.lemmas.List.Elements.{recursion_from_All}
+use Rattle.std.proofs.Common.{◌≡◌, ℕ, zero, suc, ◌+◌, ◌≤◌, eqb, List, [], ◌∷◌, length, get_or, set, is_some, Some, None, Option, refl, ◌∙◌, add-zero, arith}
 use Rattle.hir.specs.Body.{Body, Test, block_at, count_ifs, graph_of, if_of, sealing}
-use Rattle.hir.specs.declared.parts.Span.{Span}
 use Rattle.hir.specs.Graph.{walked}
 use Rattle.hir.specs.Lists.{mod_at, total}
 use Rattle.hir.specs.Renaming.{renamed_terminal}
-use Rattle.hir.specs.Script.{Block, Instruction, Script, Terminal, text}
-use Rattle.runs.proofs.RoundSteps.{round_keeps}
+use Rattle.hir.specs.Script.{Block, Script, Terminal}
+use Rattle.runs.proofs.RoundSteps.{applied_keeps, round_keeps}
 use Rattle.runs.specs.Calls.{Calls, Last, Stage, asking, begun, rounded, tidying}
 use Rattle.runs.specs.Folds.{bind}
-use Rattle.runs.specs.Rounds.{Evaluation, HostMeaning, Room, applied, evaluation, fits, folded_to, going_on, goto_of, known, settled_as, standing, standing_from, turned, turned_to, with_code, with_terminal, with_text}
-use Rattle.runs.specs.Rounds.{left, found, folded}
+use Rattle.runs.specs.Rounds.{Evaluation, HostMeaning, Room, applied, evaluation, goto_of, known, standing, standing_from, turned, turned_to, with_code, with_terminal}
 use Rattle.runs.specs.Tidies.{Elimination, block_tidied, eliminated, pass, passes, pruned, pruned_all, tidy}
 use Rattle.std.specs.Option.{option_map}
-use Rattle.std.specs.List.{AllByRecursion}
 
 pub record Counted (B : Body) : Type 0 where
   pub all : count_ifs B.blocks + B.turned_ifs ≡ B.sealed_ifs
@@ -25,56 +22,32 @@ pub record Counted (B : Body) : Type 0 where
 count_same : (f : Block Terminal → Block Terminal) → ((C : Block Terminal) → is_some (if_of (f C).terminal) ≡ is_some (if_of C.terminal))
     → (b : ℕ) (Bs : List (Block Terminal)) → count_ifs (mod_at f b Bs) ≡ count_ifs Bs
 count_same f e b [] = refl
-count_same f e zero (B ∷ Bs) = ap (λ (x : Bool). cond x 1 0 + count_ifs Bs) (e B)
-count_same f e (suc b) (B ∷ Bs) = ap (λ (m : ℕ). cond (is_some (if_of B.terminal)) 1 0 + m) (count_same f e b Bs)
+count_same f e zero (B ∷ Bs) = rw (e B)
+count_same f e (suc b) (B ∷ Bs) = rw (count_same f e b Bs)
 
 count-turned : (t : Terminal) → if_of t ≡ None → (b : ℕ) (Bs : List (Block Terminal)) (test : Test) → if_of (block_at Bs b).terminal ≡ Some test
     → suc (count_ifs (mod_at (with_terminal t) b Bs)) ≡ count_ifs Bs
 count-turned t n b [] test e = cc
-count-turned t n zero (B ∷ Bs) test e =
-    let l : cond {A = ℕ} (is_some (if_of t)) 1 0 ≡ 0 = ap (λ (o : Option Test). cond {A = ℕ} (is_some o) 1 0) n in
-    let r : cond {A = ℕ} (is_some (if_of B.terminal)) 1 0 ≡ 1 = ap (λ (o : Option Test). cond {A = ℕ} (is_some o) 1 0) e in
-    omega arith
-count-turned t n (suc b) (B ∷ Bs) test e = let ih = count-turned t n b Bs test e in omega arith
+count-turned t n zero (B ∷ Bs) test e = rw (n, e) (omega arith)
+count-turned t n (suc b) (B ∷ Bs) test e = omega (arith, count-turned t n b Bs test e)
 
 -- ---- rounds
 
-module _ (room : Room) (n b k : ℕ) (B : Body) (c : Counted B) where
-  code_same : (j : Instruction) → count_ifs (mod_at (λ C. with_code (set C.code k j) C) b B.blocks) ≡ count_ifs B.blocks
-  code_same j = count_same (λ C. with_code (set C.code k j) C) (λ C. refl) b B.blocks
-
-  recount : (j : Instruction) → count_ifs (mod_at (λ C. with_code (set C.code k j) C) b B.blocks) + B.turned_ifs ≡ B.sealed_ifs
-  recount j = ap (λ (m : ℕ). m + B.turned_ifs) (code_same j) ∙ c.all
-
-  folded_counted : (x : ℕ) (s : Option Span) (v : Primitive) → Counted (folded_to room n b k x s v B).body
-  folded_counted x s value.null = record { all = recount _ }
-  folded_counted x s value.undefined = record { all = recount _ }
-  folded_counted x s (value.boolean d) = record { all = recount _ }
-  folded_counted x s (value.number f) = record { all = recount _ }
-  folded_counted x s (value.string t) = by (fits room B.texts t)
-    where
-      by : (d : Bool) → Counted (cond d (going_on (settled_as b k x s (text (length B.texts)) (with_text t B))) (record { body = B; stop = Some n })).body
-      by true = record { all = recount _ }
-      by false = c
-
-  applied_counted : (e : Evaluation) → Counted (applied room n b k e B).body
-  applied_counted left = c
-  applied_counted (found fs j) = record { all = recount j }
-  applied_counted (folded x s v) = folded_counted x s v
+applied_counted : (room : Room) (n b k : ℕ) (B : Body) (c : Counted B) (e : Evaluation) → Counted (applied room n b k e B).body
+applied_counted room n b k B c e =
+    applied_keeps room n b k Counted (λ t C p. record { all = p.all })
+    (λ records j C p. record { all = rw (count_same (λ D. with_code (set D.code k j) D) (λ D. refl) b C.blocks) p.all }) e B c
 
 turned_counted : (b : ℕ) (B : Body) → Counted B → Counted (turned b B)
 turned_counted b B c = by (if_of (block_at B.blocks b).terminal) refl
   where
-    known_counted : (test : Test) → if_of (block_at B.blocks b).terminal ≡ Some test → (v : Option Primitive) → Counted (turned_to b (option_map (goto_of test) v) B)
-    known_counted test e None = c
-    known_counted test e (Some v) =
-        let less = count-turned (goto_of test v) refl b B.blocks test e in
-        let before = c.all in
-        record { all = omega arith }
-
     by : (o : Option Test) → if_of (block_at B.blocks b).terminal ≡ o → Counted (turned_to b (bind o (λ test. option_map (goto_of test) (known B test.test))) B)
     by None e = c
-    by (Some test) e = known_counted test e (known B test.test)
+    by (Some test) e =
+        elim (known B test.test) as (λ v. Counted (turned_to b (option_map (goto_of test) v) B)) [
+          | None ↦ c
+          | Some v ↦ record { all = omega (arith, count-turned (goto_of test v) refl b B.blocks test e) }
+        ]
 
 -- ---- tidies
 
@@ -91,12 +64,9 @@ pass_count (b ∷ bs) e = pass_count bs (block_tidied b e) ∙ count_same _ (λ 
 
 passes_count : (most : ℕ) (bs : List ℕ) (e : Elimination) → count_ifs (passes most bs e).blocks ≡ count_ifs e.blocks
 passes_count zero bs e = refl
-passes_count (suc most) bs e = by (eqb (length (pass bs e).rewrites) (length e.rewrites)) (passes_count most bs (pass bs e))
-  where
-    by : (c : Bool) → count_ifs (passes most bs (pass bs e)).blocks ≡ count_ifs (pass bs e).blocks
-        → count_ifs (cond c (pass bs e) (passes most bs (pass bs e))).blocks ≡ count_ifs e.blocks
-    by true h = pass_count bs e
-    by false h = h ∙ pass_count bs e
+passes_count (suc most) bs e =
+    cond_both (eqb (length (pass bs e).rewrites) (length e.rewrites)) _ _ (λ (r : Elimination). count_ifs r.blocks ≡ count_ifs e.blocks)
+    (λ h. pass_count bs e) (λ h. passes_count most bs (pass bs e) ∙ pass_count bs e)
 
 tidy_counted : (B : Body) → Counted B → Counted (tidy B)
 tidy_counted B c =
@@ -104,24 +74,19 @@ tidy_counted B c =
     let bs = standing_from 0 found.entered in
     let Bs = pruned_all bs found.predecessors B.blocks in
     let same : count_ifs (eliminated bs Bs) ≡ count_ifs B.blocks = passes_count (suc (total (λ C. length C.phis) Bs)) bs (record { blocks = Bs; rewrites = [] }) ∙ pruned_count bs found.predecessors B.blocks in
-    record { all = ap (λ (m : ℕ). m + B.turned_ifs) same ∙ c.all }
+    record { all = rw same c.all }
 
 -- ---- all calls
-
-every : (bs : List ℕ) → AllByRecursion (λ b. Unit {0}) bs
-every [] = tt
-every (b ∷ bs) = (tt, every bs)
 
 calls_counted : (host : HostMeaning) (start : Body) → Counted start → (g : Stage) (now : Body) (l : Last) → Calls host start g now l → Counted now
 calls_counted host start c g now l begun = c
 calls_counted host start c g now l (rounded {B = B} {l = k} room cs z) =
     round_keeps host room Counted (λ b. Unit {0}) (λ b C q z p. record { all = p.all }) (λ n b k i rest C q e p. applied_counted room n b k C p (evaluation host C i))
-    (λ b C q p. turned_counted b C p) B (every (standing B)) z (calls_counted host start c _ B k cs)
+    (λ b C q p. turned_counted b C p) B (recursion_from_All (λ b. Unit {0}) (standing B) (λ k b l. tt)) z (calls_counted host start c _ B k cs)
 calls_counted host start c g now l (tidying {g = h} {B = B} {l = k} cs) = tidy_counted B (calls_counted host start c h B k cs)
 calls_counted host start c g now l (asking {g = h} {B = B} {l = k} q cs) = calls_counted host start c h B k cs
 
 pub turned_within : (identifiers : ℕ) (s : Script) (host : HostMeaning) (g : Stage) (now : Body) (l : Last)
     → Calls host (sealing identifiers s) g now l → now.turned_ifs ≤ now.sealed_ifs
 turned_within identifiers s host g now l cs =
-    let sum = (calls_counted host (sealing identifiers s) (record { all = add-zero _ }) g now l cs).all in
-    omega arith
+    omega (arith, (calls_counted host (sealing identifiers s) (record { all = add-zero _ }) g now l cs).all)

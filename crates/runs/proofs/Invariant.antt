@@ -1,17 +1,18 @@
 -- What is kept from the seal on: the body is valid, what it records is justified, and its runs tell what the sealed body's do.
-use Rattle.std.proofs.Common.{◌≡◌, ℕ, ◌<◌, ◌⊎◌, List, [], ◌∷◌, length, Some, sym, refl, ap, ◌∙◌, subst, inl, inr}
+use Rattle.std.proofs.Common.{◌≡◌, ℕ, ◌<◌, ◌⊎◌, List, length, Some, refl, inl, inr}
 use Rattle.hir.specs.Body.{Body, Constant, block_at, record_at}
 use Rattle.hir.specs.Lists.{Mem}
 use Rattle.hir.specs.Places.{texts_named}
 use Rattle.hir.specs.Script.{Block, Instruction, Terminal}
-use Rattle.runs.proofs.NearRuns.{Alike, NearBlock, NearCode, runs_near}
+use Rattle.runs.proofs.Monotone.{zip_self}
+use Rattle.runs.proofs.NearRuns.{Alike, NearBlock, runs_near}
 use Rattle.runs.proofs.Senses.{Known, Knowledge, True, knowledge}
 use Rattle.runs.proofs.TextsKept.{constant_texts}
 use Rattle.runs.proofs.ValidBodies.{Just, Valid, assigned_in}
 use Rattle.runs.specs.Folds.{Within, always}
 use Rattle.runs.specs.Law.{SameTelling}
 use Rattle.runs.specs.Rounds.{HostMeaning}
-use Rattle.runs.specs.Runs.{Answer, Assignment, Run, World, run_of, started, taking}
+use Rattle.runs.specs.Runs.{Answer, Assignment, Run, World, run_of}
 
 abbrev pub Agrees : HostMeaning → World → Type 0
 Agrees host w = Within host.conversions (always w.conversions)
@@ -43,15 +44,8 @@ pub record Inv (host : HostMeaning) (S B : Body) : Type 0 where
 
 -- ---- a body is near itself
 
-alike_self : (w : World) (κ : Knowledge) (T : List (List ℕ)) (i : Instruction) → Alike w κ T T i i
-alike_self w κ T i = record { writing = refl; meant = λ t tr h. refl }
-
-near_code_self : (w : World) (κ : Knowledge) (T : List (List ℕ)) (is : List Instruction) → NearCode w κ T T is is
-near_code_self w κ T [] = tt
-near_code_self w κ T (i ∷ is) = (alike_self w κ T i, near_code_self w κ T is)
-
 pub near_self : (w : World) (κ : Knowledge) (T : List (List ℕ)) (B : Block Terminal) → NearBlock w κ T T B B
-near_self w κ T B = record { same_phis = refl; near_code = near_code_self w κ T B.code; binding = refl; turning = λ t tr h. refl }
+near_self w κ T B = record { same_phis = refl; near_code = zip_self (Alike w κ T T) (λ i. record { writing = refl; meant = λ t tr h. refl }) B.code; binding = refl; turning = λ t tr h. refl }
 
 -- ---- steps whose runs are the same
 
@@ -61,19 +55,19 @@ pub near_step : (host : HostMeaning) (S B C : Body) → C.parameters ≡ B.param
     → ((x : ℕ) (k : Known) → known_in C x ≡ Some k → (known_in B x ≡ Some k) ⊎ (Absent B x → ⊥))
     → ((x : ℕ) → Absent B x → Absent C x)
     → Inv host S C
-near_step host S B C params inv st near changed absent = record { static = st; kept = λ w ag answers n. kept' w ag answers n }
+near_step host S B C params inv st near changed absent = record { static = st; kept = kept' }
   where
     kept' : (w : World) → Agrees host w → (answers : List Answer) (n : ℕ) → KeptRun w C (run_of w answers n S) (run_of w answers n C)
     kept' w ag answers n =
         let ok = inv.kept w ag answers n in
         let now = runs_near w host.conversions ag (known_in B) B.texts C.texts B.parameters B.blocks C.blocks inv.static.valid inv.static.just (near w ag) answers n in
-        let moved : run_of w answers n C ≡ run_of w answers n B = ap (λ (ps : List ℕ). started w C.texts C.blocks n (taking ps answers [] [])) params ∙ now.0 in
+        let moved : run_of w answers n C ≡ run_of w answers n B = rw params now.0 in
         let self = runs_near w host.conversions ag (known_in C) C.texts C.texts C.parameters C.blocks C.blocks st.valid st.just (λ b. near_self w (known_in C) C.texts (block_at C.blocks b)) answers n in
         record {
-          same = subst (SameTelling (run_of w answers n S)) (sym moved) ok.same;
-          traced = λ a m. elim (ok.traced a m) [ inl h ↦ inl (subst (λ (r : Run). Mem a r.assignments) (sym moved) h) | inr h ↦ inr (absent a.place h) ];
+          same = rw moved ok.same;
+          traced = λ a m. elim (ok.traced a m) [ inl h ↦ inl (rw moved h) | inr h ↦ inr (absent a.place h) ];
           sound = λ a m k e. elim (ok.traced a m) [
-            | inl h ↦ self.1 a (subst (λ (r : Run). Mem a r.assignments) (sym moved) h) k e
+            | inl h ↦ self.1 a (rw moved h) k e
             | inr h ↦ elim (changed a.place k e) [ inl old ↦ ok.sound a m k old | inr no' ↦ absurd (no' h) ]
           ];
         }

@@ -1,5 +1,5 @@
 -- A run of a valid body is true to what is justly known; and another body, whose blocks come to the same wherever that holds, runs the same.
-use Rattle.std.proofs.Common.{◌≡◌, ℕ, zero, suc, ◌<◌, Bool, true, false, cond, eqb, ltb, ◌⊎◌, List, [], ◌∷◌, ◌++◌, map, length, get_or, Some, None, Option, sym, refl, ap, ◌∙◌, subst, inl, inr, append_assoc, append-nil, arith}
+use Rattle.std.proofs.Common.{◌≡◌, ℕ, zero, suc, ◌<◌, eqb, ltb, ◌⊎◌, List, [], ◌∷◌, ◌++◌, map, length, get_or, Some, None, Option, sym, refl, ◌∙◌, inl, inr, append_assoc, append-nil, arith}
 use mathlib.Core.List.{reverse_aux}
 use Rattle.hir.proofs.Members.{mem_left, mem_right, mem_split}
 use Rattle.hir.specs.Body.{block_at, graph_of}
@@ -7,12 +7,13 @@ use Rattle.hir.specs.Graph.{Path, along, entry}
 use Rattle.hir.specs.Lists.{Mem, flat_map}
 use Rattle.hir.specs.Places.{reads, successors, terminal_reads, terminal_writes, writes}
 use Rattle.hir.specs.Script.{Block, Instruction, Operand, Phi, Terminal}
-use Rattle.runs.proofs.Senses.{Fitting, Has, Known, Knowledge, True, assigning_has, assigning_true, in_world, places, true_look, true_more}
-use Rattle.runs.proofs.ValidBodies.{Just, Justified, Valid, assigned_by, assigned_on, phi_places}
-use Rattle.runs.proofs.Yields.{Computes, Means, Nothing, means, yields}
+use Rattle.runs.proofs.Senses.{Computes, Fitting, Has, Known, Knowledge, True, assigning_has, assigning_true, in_world, true_look, true_more}
+use Rattle.runs.proofs.ValidBodies.{Just, Justified, Valid, assigned_by, assigned_on, flat_append, phi_places}
+use Rattle.std.specs.List.{AllZip}
+use Rattle.runs.proofs.Yields.{Means, Nothing, means, yields}
 use Rattle.runs.specs.Folds.{Conversions, Within, always}
-use Rattle.runs.specs.Runs.{Answer, Assignment, Ending, Event, Exit, Flow, Meaning, State, Turn, Value, World, and_then, assigned, block_run, blocks_out, chooses, choosing, computes, continued, ends, executed, executed_all, exited, exited_by, finished, forks, gives, goes_on, halts, jumps, leaves, meaning, operand_from, performed, phi_value, phis_assigned, run_from, started, state, stops, taken, taking, tells, turn_of, turned_by, unfit, value_if, value_of}
-use Rattle.std.proofs.lemmas.Bool.{ltb-true}
+use Rattle.runs.specs.Runs.{Answer, Assignment, Ending, Event, Exit, Flow, Meaning, State, Turn, Value, World, and_then, assigned, block_run, blocks_out, chooses, choosing, computes, continued, ends, executed, executed_all, exited, exited_by, finished, forks, gives, goes_on, halts, jumps, leaves, meaning, operand_from, performed, phi_value, phis_assigned, run_from, started, state, stops, taken, taking, tells, turn_of, turned_by, value_of}
+use Rattle.std.proofs.lemmas.Bool.{cases_cond, cond_both, ltb-true}
 
 -- ---- steps that keep a trace true
 
@@ -20,37 +21,28 @@ use Rattle.std.proofs.lemmas.Bool.{ltb-true}
 abbrev Unknown : Knowledge → List ℕ → Type 0
 Unknown κ xs = (x : ℕ) → Mem x xs → κ x ≡ None
 
-abbrev IsNone : {A : Type 0} → Option A → Type 0
-IsNone None = Unit {0}
-IsNone (Some x) = ⊥
-
-pub none_some : {A B : Type 0} (o : Option A) (k : A) → o ≡ None → o ≡ Some k → B
-none_some o k e f = absurd (subst IsNone (sym e ∙ f) tt)
-
 -- a flow whose trace is true, and has xs if it goes on
 abbrev Fine : World → Knowledge → List ℕ → Flow → Type 0
 Fine w κ xs (goes_on s) = True w κ s.assignments × Has s.assignments xs
 Fine w κ xs (ends e s) = True w κ s.assignments
 
-fine_fewer : (w : World) (κ : Knowledge) (xs ys : List ℕ) (f : Flow) → ((x : ℕ) → Mem x ys → Mem x xs) → Fine w κ xs f → Fine w κ ys f
-fine_fewer w κ xs ys (goes_on s) sub h = (h.0, (λ x m. h.1 x (sub x m)))
-fine_fewer w κ xs ys (ends e s) sub h = h
+fine_then : (w : World) (κ : Knowledge) (xs : List ℕ) (f : Flow) (R : Flow → Type 0) → Fine w κ xs f
+    → ((u : State) → True w κ u.assignments → Has u.assignments xs → R (goes_on u)) → ((e : Ending) (u : State) → True w κ u.assignments → R (ends e u)) → R f
+fine_then w κ xs (goes_on u) R h on out = on u h.0 h.1
+fine_then w κ xs (ends e u) R h on out = out e u h
+
+-- what stands in the second of three lists is moved to the front
+moved : (x : ℕ) (P X A : List ℕ) → Mem x (P ++ X ++ A) → Mem x (X ++ (P ++ A))
+moved x P X A m = let k = mem_split x (P ++ X) A m in grind (arith, mem_split x P X, mem_left, mem_right)
 
 taking_fine : (w : World) (κ : Knowledge) (xs : List ℕ) (answers : List Answer) (t : List Assignment) (es : List Event) (D : List ℕ)
     → Unknown κ xs → True w κ t → Has t D → Fine w κ (xs ++ D) (taking xs answers t es)
 taking_fine w κ [] answers t es D u tr h = (tr, h)
 taking_fine w κ (x ∷ xs) [] t es D u tr h = tr
 taking_fine w κ (x ∷ xs) (gives v ∷ answers) t es D u tr h =
-    fine_fewer w κ (xs ++ x ∷ D) (x ∷ xs ++ D) (taking xs answers (assigned x v ∷ t) es) (λ y m. swap y m)
-    (taking_fine w κ xs answers (assigned x v ∷ t) es (x ∷ D) (λ y m. u y (inr m)) (true_more w κ x v t tr (λ k e. none_some (κ x) k (u x (inl refl)) e)) (λ y m. more y m))
-  where
-    swap : (y : ℕ) → Mem y (x ∷ xs ++ D) → Mem y (xs ++ x ∷ D)
-    swap y (inl e) = mem_right y xs (x ∷ D) (inl e)
-    swap y (inr m) = elim (mem_split y xs D m) [ inl k ↦ mem_left y xs (x ∷ D) k | inr k ↦ mem_right y xs (x ∷ D) (inr k) ]
-
-    more : (y : ℕ) → Mem y (x ∷ D) → Mem y (places (assigned x v ∷ t))
-    more y (inl e) = inl e
-    more y (inr m) = inr (h y m)
+    fine_then w κ (xs ++ x ∷ D) (taking xs answers (assigned x v ∷ t) es) (Fine w κ (x ∷ xs ++ D))
+    (taking_fine w κ xs answers (assigned x v ∷ t) es (x ∷ D) (λ y m. u y (inr m)) (true_more w κ x v t tr (λ k e. cc (u x (inl refl)))) (λ y m. elim m [ inl e ↦ inl e | inr k ↦ inr (h y k) ]))
+    (λ s trs hs. (trs, (λ y m. hs y (moved y (x ∷ []) xs D m)))) (λ e s trs. trs)
 taking_fine w κ (x ∷ xs) (chooses k ∷ answers) t es D u tr h = tr
 
 just_fits : (w : World) (κ : Knowledge) (xs : List ℕ) (ys : List (Option Known)) (vs : List Value) → Justified κ xs ys → Computes w ys vs → Fitting w κ xs vs
@@ -62,11 +54,7 @@ just_fits w κ (x ∷ xs) (y ∷ ys) (v ∷ vs) j c = ((λ k e. c.0 k (j.0 k e))
 just_unknown : (κ : Knowledge) (xs : List ℕ) (ys : List (Option Known)) → Justified κ xs ys → Nothing ys → Unknown κ xs
 just_unknown κ [] ys j n x m = absurd m
 just_unknown κ (z ∷ xs) [] j n x m = absurd j
-just_unknown κ (z ∷ xs) (y ∷ ys) j n x (inl e) = subst (λ (q : ℕ). κ q ≡ None) (sym e) (by (κ z) refl)
-  where
-    by : (o : Option Known) → κ z ≡ o → o ≡ None
-    by None h = refl
-    by (Some k) h = none_some y k n.0 (j.0 k h)
+just_unknown κ (z ∷ xs) (y ∷ ys) j n x (inl e) = rw e (grind (arith, j.0, n.0))
 just_unknown κ (z ∷ xs) (y ∷ ys) j n x (inr m) = just_unknown κ xs ys j.1 n.1 x m
 
 performed_fine : (w : World) (κ : Knowledge) (xs : List ℕ) (ys : List (Option Known)) (g : Meaning) (s : State) (D : List ℕ)
@@ -74,7 +62,7 @@ performed_fine : (w : World) (κ : Knowledge) (xs : List ℕ) (ys : List (Option
 performed_fine w κ xs ys (computes vs) s D j m tr h =
     let f = just_fits w κ xs ys vs j m in (
       assigning_true w κ xs vs s.assignments f tr,
-      (λ x k. assigning_has w κ xs vs s.assignments f x (elim (mem_split x xs D k) [ inl q ↦ inl q | inr q ↦ inr (h x q) ])),
+      (λ x k. assigning_has w κ xs vs s.assignments f x (grind (arith, mem_split x xs D k, h x))),
     )
 performed_fine w κ xs ys (tells e vs) s D j m tr h = taking_fine w κ xs s.answers s.assignments _ D (just_unknown κ xs ys j m) tr h
 
@@ -96,24 +84,13 @@ pub record Alike (w : World) (κ : Knowledge) (T T' : List (List ℕ)) (i j : In
   pub meant : (t : List Assignment) → True w κ t → Has t (reads i) → meaning w T' j (map (value_of t) (reads j)) ≡ meaning w T i (map (value_of t) (reads i))
 
 abbrev pub NearCode : World → Knowledge → (T T' : List (List ℕ)) → List Instruction → List Instruction → Type 0
-NearCode w κ T T' [] [] = Unit {0}
-NearCode w κ T T' [] (j ∷ js) = ⊥
-NearCode w κ T T' (i ∷ is) [] = ⊥
-NearCode w κ T T' (i ∷ is) (j ∷ js) = Alike w κ T T' i j × NearCode w κ T T' is js
+NearCode w κ T T' is js = AllZip (Alike w κ T T') is js
 
 pub record NearBlock (w : World) (κ : Knowledge) (T T' : List (List ℕ)) (B C : Block Terminal) : Type 0 where
   pub same_phis : C.phis ≡ B.phis
   pub near_code : NearCode w κ T T' B.code C.code
   pub binding : terminal_writes C.terminal ≡ terminal_writes B.terminal
   pub turning : (t : List Assignment) → True w κ t → Has t (terminal_reads B.terminal) → turn_of C.terminal (value_of t) ≡ turn_of B.terminal (value_of t)
-
-flat_last : (is : List Instruction) (i : Instruction) (x : ℕ) → Mem x (flat_map writes (is ++ i ∷ [])) → Mem x (flat_map writes is) ⊎ Mem x (writes i)
-flat_last [] i x m = elim (mem_split x (writes i) [] m) [ inl k ↦ inr k | inr k ↦ absurd k ]
-flat_last (j ∷ is) i x m =
-    elim (mem_split x (writes j) (flat_map writes (is ++ i ∷ [])) m) [
-      | inl k ↦ inl (mem_left x (writes j) (flat_map writes is) k)
-      | inr k ↦ elim (flat_last is i x k) [ inl q ↦ inl (mem_right x (writes j) (flat_map writes is) q) | inr q ↦ inr q ]
-    ]
 
 get-mem : (bs : List ℕ) (k : ℕ) → k < length bs → Mem (get_or bs k 0) bs
 get-mem [] k l = absurd (omega arith)
@@ -122,60 +99,37 @@ get-mem (b ∷ bs) (suc k) l = inr (get-mem bs k (omega arith))
 
 mem-reverse : {A : Type 0} (a : A) (xs ys : List A) → Mem a (reverse_aux xs ys) → Mem a xs ⊎ Mem a ys
 mem-reverse a [] ys m = inr m
-mem-reverse a (x ∷ xs) ys m = elim (mem-reverse a xs (x ∷ ys) m) [ inl k ↦ inl (inr k) | inr k ↦ first k ]
-  where
-    first : Mem a (x ∷ ys) → Mem a (x ∷ xs) ⊎ Mem a ys
-    first (inl e) = inl (inl e)
-    first (inr k) = inr k
+mem-reverse a (x ∷ xs) ys m = let k = mem-reverse a xs (x ∷ ys) m in grind arith
 
 module _ (w : World) (c : Conversions) (agree : Within c (always w.conversions)) (κ : Knowledge) (T T' : List (List ℕ)) (ps : List ℕ) (Bs Cs : List (Block Terminal))
     (valid : Valid ps Bs) (just : Just c T κ ps Bs) (near : (b : ℕ) → NearBlock w κ T T' (block_at Bs b) (block_at Cs b)) where
-  executed_near : (i j : Instruction) → Alike w κ T T' i j → (s : State) → True w κ s.assignments → Has s.assignments (reads i) → executed w T' j s ≡ executed w T i s
-  executed_near i j a s tr h = ap (λ (xs : List ℕ). performed xs (meaning w T' j (map (value_of s.assignments) (reads j))) s) a.writing ∙ ap (λ (m : Meaning). performed (writes i) m s) (a.meant s.assignments tr h)
-
   module _ (b : ℕ) (h : List ℕ) (path : Path (graph_of Bs) (b ∷ h)) where
     -- the instructions after `before`
     code_near : (before is js : List Instruction) → (block_at Bs b).code ≡ before ++ is → NearCode w κ T T' is js → (s : State)
         → True w κ s.assignments → Has s.assignments (assigned_by ps Bs b before h)
         → (executed_all w T' js s ≡ executed_all w T is s) × Fine w κ (assigned_by ps Bs b (before ++ is) h) (executed_all w T is s)
-    code_near before [] [] e n s tr hs = (refl, (tr, (λ x m. hs x (subst (λ (l : List Instruction). Mem x (assigned_by ps Bs b l h)) (append-nil before) m))))
+    code_near before [] [] e n s tr hs = (refl, (tr, rw (append-nil before) hs))
     code_near before [] (j ∷ js) e n s tr hs = absurd n
     code_near before (i ∷ is) [] e n s tr hs = absurd n
     code_near before (i ∷ is) (j ∷ js) e n s tr hs =
         let D = assigned_by ps Bs b before h in
         let has_reads : Has s.assignments (reads i) = (λ x m. hs x (valid.code_used b h path before i is e x m)) in
-        let same = executed_near i j n.0 s tr has_reads in
+        let same : executed w T' j s ≡ executed w T i s = rw (n.0.writing, n.0.meant s.assignments tr has_reads) in
         let m = means w c agree κ s.assignments tr T i has_reads in
-        let at : Mem i (block_at Bs b).code = subst (Mem i) (sym e) (mem_right i before (i ∷ is) (inl refl)) in
+        let at : Mem i (block_at Bs b).code = rw e (mem_right i before (i ∷ is) (inl refl)) in
         let fine = performed_fine w κ (writes i) (yields c T κ i) (meaning w T i (map (value_of s.assignments) (reads i))) s D (just.coded b i at) m tr hs in
         let next : (block_at Bs b).code ≡ (before ++ i ∷ []) ++ is = e ∙ sym (append_assoc before (i ∷ []) is) in
-        let on = on_flow (executed w T i s) fine (λ u tru hu. code_near (before ++ i ∷ []) is js next n.1 u tru hu) in
-        (ap (λ (f : Flow). and_then f (executed_all w T' js)) same ∙ on.0, on.1)
+        let on =
+        fine_then w κ (writes i ++ D) (executed w T i s)
+        (λ (f : Flow). (and_then f (executed_all w T' js) ≡ and_then f (executed_all w T is)) × Fine w κ (assigned_by ps Bs b (before ++ i ∷ is) h) (and_then f (executed_all w T is)))
+        fine (λ u tru hu. rw (← append_assoc before (i ∷ []) is) (code_near (before ++ i ∷ []) is js next n.1 u tru (λ x m. hu x (more x m)))) (λ e u tru. (refl, tru)) in
+        (rw same on.0, on.1)
       where
         more : (x : ℕ) → Mem x (assigned_by ps Bs b (before ++ i ∷ []) h) → Mem x (writes i ++ assigned_by ps Bs b before h)
         more x m =
             let P = phi_places (block_at Bs b) in
-            let W = flat_map writes before in
-            let A = assigned_on ps Bs h in
-            elim (mem_split x (P ++ flat_map writes (before ++ i ∷ [])) A m) [
-              | inl k ↦ elim (mem_split x P (flat_map writes (before ++ i ∷ [])) k) [
-                | inl q ↦ mem_right x (writes i) (P ++ W ++ A) (mem_left x (P ++ W) A (mem_left x P W q))
-                | inr q ↦ elim (flat_last before i x q) [
-                  | inl r ↦ mem_right x (writes i) (P ++ W ++ A) (mem_left x (P ++ W) A (mem_right x P W r))
-                  | inr r ↦ mem_left x (writes i) (P ++ W ++ A) r
-                ]
-              ]
-              | inr k ↦ mem_right x (writes i) (P ++ W ++ A) (mem_right x (P ++ W) A k)
-            ]
-
-        on_flow : (f : Flow) → Fine w κ (writes i ++ assigned_by ps Bs b before h) f
-            → ((u : State) → True w κ u.assignments → Has u.assignments (assigned_by ps Bs b (before ++ i ∷ []) h)
-            → (executed_all w T' js u ≡ executed_all w T is u) × Fine w κ (assigned_by ps Bs b ((before ++ i ∷ []) ++ is) h) (executed_all w T is u))
-            → (and_then f (executed_all w T' js) ≡ and_then f (executed_all w T is)) × Fine w κ (assigned_by ps Bs b (before ++ i ∷ is) h) (and_then f (executed_all w T is))
-        on_flow (goes_on u) fine rec =
-            let r = rec u fine.0 (λ x m. fine.1 x (more x m)) in
-            (r.0, subst (λ (l : List Instruction). Fine w κ (assigned_by ps Bs b l h) (executed_all w T is u)) (append_assoc before (i ∷ []) is) r.1)
-        on_flow (ends e u) fine rec = (refl, fine)
+            moved x (P ++ flat_map writes before) (writes i) (assigned_on ps Bs h)
+            (rw (append_assoc P (flat_map writes before) (writes i), ← append-nil (writes i), ← flat_append writes before (i ∷ [])) m)
 
     -- ---- the terminal
 
@@ -189,15 +143,9 @@ module _ (w : World) (c : Conversions) (agree : Within c (always w.conversions))
     taken_out (stops e) l s tr hs = tr
     taken_out (forks bs) l s tr hs = by s.answers
       where
-        picked : (k : ℕ) (answers : List Answer) (d : Bool) → ltb k (length bs) ≡ d
-            → Out (cond d (leaves (get_or bs k 0) (state s.assignments s.events answers)) (halts unfit (state s.assignments s.events (chooses k ∷ answers))))
-        picked k answers true e = (l (get_or bs k 0) (get-mem bs k (ltb-true k (length bs) e)), tr, hs)
-        picked k answers false e = tr
-
         by : (answers : List Answer) → Out (choosing bs answers s.assignments s.events)
-        by [] = tr
-        by (gives v ∷ answers) = tr
-        by (chooses k ∷ answers) = picked k answers (ltb k (length bs)) refl
+        by (chooses k ∷ answers) = cond_both (ltb k (length bs)) _ _ Out (λ e. (l (get_or bs k 0) (get-mem bs k (ltb-true k (length bs) e)), tr, hs)) (λ e. tr)
+        by answers = tr
 
     exited_near : (u : Terminal) → terminal_writes u ≡ terminal_writes (block_at Bs b).terminal
         → ((t : List Assignment) → True w κ t → Has t (terminal_reads (block_at Bs b).terminal) → turn_of u (value_of t) ≡ turn_of (block_at Bs b).terminal (value_of t))
@@ -207,28 +155,15 @@ module _ (w : World) (c : Conversions) (agree : Within c (always w.conversions))
         let t = (block_at Bs b).terminal in
         let flow = taking (terminal_writes t) s.answers s.assignments s.events in
         let fine = taking_fine w κ (terminal_writes t) s.answers s.assignments s.events (assigned_by ps Bs b (block_at Bs b).code h) (λ x m. just.bound b x m) tr hs in
-        let on = on_flow flow fine in
-        (ap (λ (xs : List ℕ). turned_by u (taking xs s.answers s.assignments s.events)) e ∙ on.0, on.1)
-      where
-        all : (x : ℕ) → Mem x (assigned_on ps Bs (b ∷ h)) → Mem x (terminal_writes (block_at Bs b).terminal ++ assigned_by ps Bs b (block_at Bs b).code h)
-        all x m =
-            let B = block_at Bs b in
-            let PW = phi_places B ++ flat_map writes B.code in
-            let X = terminal_writes B.terminal in
-            let A = assigned_on ps Bs h in
-            elim (mem_split x (PW ++ X) A m) [
-              | inl k ↦ elim (mem_split x PW X k) [ inl q ↦ mem_right x X (PW ++ A) (mem_left x PW A q) | inr q ↦ mem_left x X (PW ++ A) q ]
-              | inr k ↦ mem_right x X (PW ++ A) (mem_right x PW A k)
-            ]
-
-        on_flow : (f : Flow) → Fine w κ (terminal_writes (block_at Bs b).terminal ++ assigned_by ps Bs b (block_at Bs b).code h) f
-            → (turned_by u f ≡ turned_by (block_at Bs b).terminal f) × Out (turned_by (block_at Bs b).terminal f)
-        on_flow (goes_on v) fine =
-            let t = (block_at Bs b).terminal in (
-              ap (λ (n : Turn). taken n v) (turns v.assignments fine.0 (λ x m. fine.1 x (mem_right x (terminal_writes t) _ (valid.terminal_used b h path x m)))),
-              taken_out (turn_of t (value_of v.assignments)) (turn_leads t (value_of v.assignments)) v fine.0 (λ x m. fine.1 x (all x m)),
-            )
-        on_flow (ends e v) fine = (refl, fine)
+        let on =
+        fine_then w κ _ flow (λ (f : Flow). (turned_by u f ≡ turned_by t f) × Out (turned_by t f)) fine
+        (λ v trv hv. (
+          rw (turns v.assignments trv (λ x m. hv x (mem_right x (terminal_writes t) _ (valid.terminal_used b h path x m)))),
+          taken_out (turn_of t (value_of v.assignments)) (turn_leads t (value_of v.assignments)) v trv
+              (λ x m. hv x (moved x (phi_places (block_at Bs b) ++ flat_map writes (block_at Bs b).code) (terminal_writes t) (assigned_on ps Bs h) m)),
+        ))
+        (λ e v trv. (refl, trv)) in
+        (rw e on.0, on.1)
 
   -- ---- phis
 
@@ -237,21 +172,18 @@ module _ (w : World) (c : Conversions) (agree : Within c (always w.conversions))
   coming_from (a ∷ h) = Some a
 
   operand_mem : (a : ℕ) (os : List Operand) (y : ℕ) → operand_from a os ≡ Some y → (o : Operand) × Mem o os × (o.value ≡ y)
-  operand_mem a [] y e = none_some None y refl e
-  operand_mem a (o ∷ os) y e = by (eqb o.block a) e (λ f. operand_mem a os y f)
-    where
-      by : (d : Bool) → cond d (Some o.value) (operand_from a os) ≡ Some y → (operand_from a os ≡ Some y → (p : Operand) × Mem p os × (p.value ≡ y)) → (p : Operand) × Mem p (o ∷ os) × (p.value ≡ y)
-      by true f ih = (o, inl refl, cc)
-      by false f ih = let r = ih f in (r.0, inr r.1, r.2)
+  operand_mem a [] y e = cc
+  operand_mem a (o ∷ os) y e =
+      elim (cases_cond (eqb o.block a) (Some o.value) (operand_from a os) (Some y) (sym e)) [ inl h ↦ (o, inl refl, cc h) | inr h ↦ (let r = operand_mem a os y (sym h) in (r.0, inr r.1, r.2)) ]
 
   phi_fits : (b : ℕ) (h : List ℕ) → Path (graph_of Bs) (b ∷ h) → (t : List Assignment) → True w κ t → Has t (assigned_on ps Bs h) → (φ : Phi) → Mem φ (block_at Bs b).phis
       → (k : Known) → κ φ.place ≡ Some k → phi_value (coming_from h) t φ ≡ in_world w k
-  phi_fits b h entry t tr hs φ m k e = absurd (subst (Mem φ) valid.clean m)
+  phi_fits b h entry t tr hs φ m k e = absurd (rw valid.clean at m)
   phi_fits b h (along {a = a} {b = d} {h = g} p edge) t tr hs φ m k e =
       let n = valid.named a g p b edge φ m in
       let o = operand_mem a φ.operands n.0 n.1 in
-      let known : κ n.0 ≡ Some k = subst (λ (y : ℕ). κ y ≡ Some k) o.2 (just.joined b φ m k e o.0 o.1) in
-      ap (value_if t) n.1 ∙ true_look w κ t n.0 k tr (hs n.0 n.2) known
+      let known : κ n.0 ≡ Some k = rw o.2 at (just.joined b φ m k e o.0 o.1) in
+      rw n.1 (true_look w κ t n.0 k tr (hs n.0 n.2) known)
 
   phis_fit : (from : Option ℕ) (t : List Assignment) (φs : List Phi) → ((φ : Phi) → Mem φ φs → (k : Known) → κ φ.place ≡ Some k → phi_value from t φ ≡ in_world w k)
       → Fitting w κ (map (λ φ. φ.place) φs) (map (phi_value from t) φs)
@@ -268,32 +200,17 @@ module _ (w : World) (c : Conversions) (agree : Within c (always w.conversions))
       let t = phis_assigned (coming_from h) B.phis s.assignments in
       let fit = phis_fit (coming_from h) s.assignments B.phis (λ φ m k e. phi_fits b h p s.assignments tr hs φ m k e) in
       let begin = state t s.events s.answers in
-      let code = code_near b h p [] B.code C.code refl (near b).near_code begin (assigning_true w κ (phi_places B) (map (phi_value (coming_from h) s.assignments) B.phis) s.assignments fit tr) (λ x m. first x m fit) in
-      let on = on_flow (executed_all w T B.code begin) code.1 in (
-        ap (λ (φs : List Phi). exited_by C.terminal (executed_all w T' C.code (state (phis_assigned (coming_from h) φs s.assignments) s.events s.answers))) (near b).same_phis
-            ∙ ap (exited_by C.terminal) code.0 ∙ on.0,
-        on.1,
-      )
-    where
-      first : (x : ℕ) → Mem x (assigned_by ps Bs b [] h) → Fitting w κ (map (λ φ. φ.place) (block_at Bs b).phis) (map (phi_value (coming_from h) s.assignments) (block_at Bs b).phis)
-          → Mem x (places (phis_assigned (coming_from h) (block_at Bs b).phis s.assignments))
-      first x m fit =
-          let P = phi_places (block_at Bs b) in
-          assigning_has w κ P _ s.assignments fit x
-          (elim (mem_split x (P ++ []) (assigned_on ps Bs h) m) [
-            | inl k ↦ elim (mem_split x P [] k) [ inl q ↦ inl q | inr q ↦ absurd q ]
-            | inr k ↦ inr (hs x k)
-          ])
-
-      on_flow : (f : Flow) → Fine w κ (assigned_by ps Bs b (block_at Bs b).code h) f
-          → (exited_by (block_at Cs b).terminal f ≡ exited_by (block_at Bs b).terminal f) × Out b h p (exited_by (block_at Bs b).terminal f)
-      on_flow (goes_on v) fine = exited_near b h p (block_at Cs b).terminal (near b).binding (near b).turning v fine.0 fine.1
-      on_flow (ends e v) fine = (refl, fine)
+      let code = code_near b h p [] B.code C.code refl (near b).near_code begin (assigning_true w κ (phi_places B) (map (phi_value (coming_from h) s.assignments) B.phis) s.assignments fit tr)
+      (λ x m. assigning_has w κ (phi_places B) _ s.assignments fit x (grind (arith, mem_split x (phi_places B) (assigned_on ps Bs h) (rw append-nil at m), hs x))) in
+      let on =
+      fine_then w κ _ (executed_all w T B.code begin) (λ (f : Flow). (exited_by C.terminal f ≡ exited_by B.terminal f) × Out b h p (exited_by B.terminal f)) code.1
+      (λ v trv hv. exited_near b h p C.terminal (near b).binding (near b).turning v trv hv) (λ e v trv. (refl, trv)) in
+      (rw ((near b).same_phis, code.0) on.0, on.1)
 
   -- ---- runs
 
   finished_true : (e : Ending) (l : Option ℕ) (s : State) → True w κ s.assignments → True w κ (finished e l s).assignments
-  finished_true e l s tr a m k h = tr a (elim (mem-reverse a s.assignments [] m) [ inl q ↦ q | inr q ↦ absurd q ]) k h
+  finished_true e l s tr a m k h = tr a (grind (arith, mem-reverse a s.assignments [] m)) k h
 
   run_near : (n b : ℕ) (h : List ℕ) → Path (graph_of Bs) (b ∷ h) → (s : State) → True w κ s.assignments → Has s.assignments (assigned_on ps Bs h)
       → (run_from w T' Cs n (coming_from h) b s ≡ run_from w T Bs n (coming_from h) b s) × True w κ (run_from w T Bs n (coming_from h) b s).assignments
@@ -301,7 +218,7 @@ module _ (w : World) (c : Conversions) (agree : Within c (always w.conversions))
   run_near (suc n) b h p s tr hs =
       let blocks = block_near b h p s tr hs in
       let on = on_exit (block_run w T (coming_from h) (block_at Bs b) s) blocks.1 (λ a q u tru hu. run_near n a (b ∷ h) q u tru hu) in
-      (ap (continued (run_from w T' Cs n (Some b)) b) blocks.0 ∙ on.0, on.1)
+      (rw blocks.0 on.0, on.1)
     where
       on_exit : (x : Exit) → Out b h p x
           → ((a : ℕ) → Path (graph_of Bs) (a ∷ b ∷ h) → (u : State) → True w κ u.assignments → Has u.assignments (assigned_on ps Bs (b ∷ h))
@@ -310,12 +227,9 @@ module _ (w : World) (c : Conversions) (agree : Within c (always w.conversions))
       on_exit (leaves a u) out rec = rec a (along p out.0) u out.1 out.2
       on_exit (halts e u) out rec = (refl, finished_true e (Some b) u out)
 
-  started_near : (n : ℕ) (f : Flow) → Fine w κ ps f → (started w T' Cs n f ≡ started w T Bs n f) × True w κ (started w T Bs n f).assignments
-  started_near n (goes_on s) fine = run_near n 0 [] entry s fine.0 fine.1
-  started_near n (ends e s) fine = (refl, finished_true e None s fine)
-
   pub runs_near : (answers : List Answer) (n : ℕ)
       → (started w T' Cs n (taking ps answers [] []) ≡ started w T Bs n (taking ps answers [] [])) × True w κ (started w T Bs n (taking ps answers [] [])).assignments
   runs_near answers n =
-      started_near n (taking ps answers [] [])
-      (fine_fewer w κ (ps ++ []) ps (taking ps answers [] []) (λ x m. mem_left x ps [] m) (taking_fine w κ ps answers [] [] [] just.outside (λ a m k e. absurd m) (λ x m. absurd m)))
+      fine_then w κ (ps ++ []) (taking ps answers [] []) (λ (f : Flow). (started w T' Cs n f ≡ started w T Bs n f) × True w κ (started w T Bs n f).assignments)
+      (taking_fine w κ ps answers [] [] [] just.outside (λ a m k e. absurd m) (λ x m. absurd m))
+      (λ s tr hs. run_near n 0 [] entry s tr (λ x m. hs x (mem_left x ps [] m))) (λ e s tr. (refl, finished_true e None s tr))

@@ -1,16 +1,17 @@
 -- What every step of a round keeps, a whole round keeps.
-use Rattle.std.proofs.Common.{◌≡◌, ℕ, zero, suc, Bool, true, false, cond, ◌||◌, List, [], ◌∷◌, ◌++◌, length, drop, set, Some, None, Option, sym, refl, ap, ◌∙◌, append-nil, le_refl, drop-set-lt}
+use Rattle.std.proofs.Common.{◌∙◌, ◌≡◌, ℕ, zero, suc, false, List, [], ◌∷◌, ◌++◌, drop, set, Some, None, Option, sym, refl, append-nil, le_refl, drop-set-lt, add-one}
 use Rattle.ecma.specs.Value.{Primitive}
 use Rattle.ecma.specs.Value as value
-use Rattle.hir.specs.Body.{Body, block_at}
+use Rattle.hir.specs.Body.{Body, Constant, block_at}
 use Rattle.hir.specs.declared.block.BlockKind.{BlockKind}
 use Rattle.hir.specs.declared.block.BlockKind.TheVariants as kind
 use Rattle.hir.specs.declared.parts.Span.{Span}
 use Rattle.hir.specs.Lists.{any, mod_at}
-use Rattle.hir.specs.Script.{Block, Instruction, Terminal, text}
-use Rattle.runs.specs.Rounds.{Evaluation, HostMeaning, Progress, Room, all_but_last, applied, block_folded, blocks_folded, both_zeros_in, code_evaluated, contents_folded, evaluated, evaluated_code, evaluation, fits, folded_to, going_on, has_both_zeros, meets_both_zeros, phis_recorded, resumed, round, settled_as, standing, turned, with_code, with_text}
+use Rattle.hir.specs.Script.{Block, Instruction, Terminal}
+use Rattle.runs.specs.Rounds.{Evaluation, HostMeaning, Progress, Room, all_but_last, applied, block_folded, blocks_folded, both_zeros_in, code_evaluated, contents_folded, evaluated, evaluated_code, evaluation, fits, folded_to, going_on, replaced, with_records, with_text, has_both_zeros, meets_both_zeros, phis_recorded, resumed, round, standing, turned, with_code}
 use Rattle.runs.specs.Rounds.{left, found, folded}
-use Rattle.std.proofs.lemmas.Bool.{or_parts}
+use Rattle.std.proofs.lemmas.Bool.{cond_both, or_from, or_parts}
+use Rattle.std.proofs.lemmas.List.{drop-drop}
 use Rattle.std.specs.List.{AllByRecursion}
 
 -- ---- reading a block of which one was changed
@@ -25,48 +26,42 @@ abbrev pub code_of : Body → ℕ → List Instruction
 code_of B b = (block_at B.blocks b).code
 
 drop_more : {A : Type 0} (k : ℕ) (xs : List A) (x : A) (ys : List A) → drop k xs ≡ x ∷ ys → drop (suc k) xs ≡ ys
-drop_more zero [] x ys e = cc
-drop_more zero (z ∷ xs) x ys e = cc
-drop_more (suc k) [] x ys e = cc
-drop_more (suc k) (z ∷ xs) x ys e = drop_more k xs x ys e
+drop_more k xs x ys e = rw (← add-one k, ← drop-drop 1 k xs, e)
 
--- ---- an instruction's step changes no later instruction of its block
+-- ---- an instruction's step
+
+-- What an added text keeps, and new records with another instruction in the place of k, the whole step keeps.
+module _ (room : Room) (n b k : ℕ) (P : Body → Type 0) (text_added : (t : List ℕ) (B : Body) → P B → P (with_text t B))
+    (changed : (records : List (Option Constant)) (j : Instruction) (B : Body) → P B → P (with_records records (replaced b k j B))) where
+  folded_keeps : (x : ℕ) (s : Option Span) (v : Primitive) (B : Body) → P B → P (folded_to room n b k x s v B).body
+  folded_keeps x s (value.string t) B p = cond_both (fits room B.texts t) _ _ (λ (q : Progress). P q.body) (λ e. changed _ _ (with_text t B) (text_added t B p)) (λ e. p)
+  folded_keeps x s v B p = changed _ _ B p
+
+  pub applied_keeps : (e : Evaluation) (B : Body) → P B → P (applied room n b k e B).body
+  applied_keeps left B p = p
+  applied_keeps (found fs j) B p = changed _ j B p
+  applied_keeps (folded x s v) B p = folded_keeps x s v B p
+
+-- ---- it changes no later instruction of its block
 
 replaced_rest : (b k : ℕ) (j : Instruction) (Bs : List (Block Terminal))
     → drop (suc k) (block_at (mod_at (λ C. with_code (set C.code k j) C) b Bs) b).code ≡ drop (suc k) (block_at Bs b).code
-replaced_rest b k j Bs =
-    ap (λ (C : Block Terminal). drop (suc k) C.code) (at_changed _ b Bs refl) ∙ drop-set-lt (suc k) (block_at Bs b).code k j (le_refl (suc k))
+replaced_rest b k j Bs = rw (at_changed _ b Bs refl) (drop-set-lt (suc k) (block_at Bs b).code k j (le_refl (suc k)))
 
-module _ (room : Room) (n b k : ℕ) (B : Body) where
-  folded_rest : (x : ℕ) (s : Option Span) (v : Primitive) → drop (suc k) (code_of (folded_to room n b k x s v B).body b) ≡ drop (suc k) (code_of B b)
-  folded_rest x s value.null = replaced_rest b k _ B.blocks
-  folded_rest x s value.undefined = replaced_rest b k _ B.blocks
-  folded_rest x s (value.boolean c) = replaced_rest b k _ B.blocks
-  folded_rest x s (value.number f) = replaced_rest b k _ B.blocks
-  folded_rest x s (value.string t) = by (fits room B.texts t)
-    where
-      by : (c : Bool) → drop (suc k) (code_of (cond c (going_on (settled_as b k x s (text (length B.texts)) (with_text t B))) (record { body = B; stop = Some n })).body b) ≡ drop (suc k) (code_of B b)
-      by true = replaced_rest b k _ B.blocks
-      by false = refl
-
-  applied_rest : (e : Evaluation) → drop (suc k) (code_of (applied room n b k e B).body b) ≡ drop (suc k) (code_of B b)
-  applied_rest left = refl
-  applied_rest (found fs j) = replaced_rest b k j B.blocks
-  applied_rest (folded x s v) = folded_rest x s v
+applied_rest : (room : Room) (n b k : ℕ) (B : Body) (e : Evaluation) → drop (suc k) (code_of (applied room n b k e B).body b) ≡ drop (suc k) (code_of B b)
+applied_rest room n b k B e =
+    applied_keeps room n b k (λ C. drop (suc k) (code_of C b) ≡ drop (suc k) (code_of B b)) (λ t C p. p) (λ records j C p. replaced_rest b k j C.blocks ∙ p) e B refl
 
 -- ---- the instructions that are evaluated are the first of the block
 
 but_last : (is : List Instruction) → (tail : List Instruction) × (is ≡ all_but_last is ++ tail)
 but_last [] = ([], refl)
 but_last (i ∷ []) = (i ∷ [], refl)
-but_last (i ∷ j ∷ is) = let r = but_last (j ∷ is) in (r.0, ap (λ (l : List Instruction). i ∷ l) r.1)
+but_last (i ∷ j ∷ is) = let r = but_last (j ∷ is) in (r.0, cc r.1)
 
 evaluated_first : (g : BlockKind) (is : List Instruction) → (tail : List Instruction) × (is ≡ evaluated_code g is ++ tail)
-evaluated_first kind.Block is = ([], sym (append-nil is))
-evaluated_first kind.Value is = ([], sym (append-nil is))
-evaluated_first kind.Loop is = ([], sym (append-nil is))
 evaluated_first kind.Sequence is = but_last is
-evaluated_first kind.Catch is = ([], sym (append-nil is))
+evaluated_first g is = ([], sym (append-nil is))
 
 -- ---- steps, blocks, rounds
 
@@ -81,7 +76,7 @@ module _ (host : HostMeaning) (room : Room) (P : Body → Type 0) (Q : ℕ → T
   code_steps b q n k (i ∷ is) tail B None p e =
       let after = evaluated host room n b k i B in
       code_steps b q (suc n) (suc k) is tail after.body after.stop (code n b k i (is ++ tail) B q e p)
-      (applied_rest room n b k B (evaluation host B i) ∙ drop_more k (code_of B b) i (is ++ tail) e)
+      (rw (applied_rest room n b k B (evaluation host B i)) (drop_more k (code_of B b) i (is ++ tail) e))
   code_steps b q n k (i ∷ is) tail B (Some m) p e = code_steps b q (suc n) (suc k) is tail B (Some m) p (drop_more k (code_of B b) i (is ++ tail) e)
 
   block_steps : (b : ℕ) → Q b → (B : Body) (stop : Option ℕ) → both_zeros_in host room (b ∷ []) (record { body = B; stop = stop }) ≡ false → P B
@@ -106,7 +101,7 @@ module _ (host : HostMeaning) (room : Room) (P : Body → Type 0) (Q : ℕ → T
   blocks_steps [] q p z h = h
   blocks_steps (b ∷ bs) q p z h =
       blocks_steps bs q.1 (block_folded host room b p) (or_parts _ _ z).1
-      (block_steps b q.0 p.body p.stop (ap (λ (x : Bool). x || false) (or_parts _ _ z).0) h)
+      (block_steps b q.0 p.body p.stop (or_from _ _ (or_parts _ _ z).0 refl) h)
 
   pub round_keeps : (B : Body) → AllByRecursion Q (standing B) → meets_both_zeros host room B ≡ false → P B → P (round host room B).body
   round_keeps B q z h = blocks_steps (standing B) q (going_on B) z h

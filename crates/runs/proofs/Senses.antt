@@ -1,12 +1,12 @@
 -- What records say of the values in a run: a trace is true to them, and what was assigned is looked up as recorded.
-use Rattle.std.proofs.Common.{◌≡◌, ℕ, ◌⊎◌, List, [], ◌∷◌, map, Some, Option, sym, refl, ◌∙◌, subst, inl, inr}
+use Rattle.std.proofs.Common.{◌≡◌, ℕ, ◌⊎◌, List, [], ◌∷◌, map, Some, Option, sym, refl, inl, inr, arith}
 use Rattle.ecma.specs.Value.{Primitive}
 use Rattle.hir.specs.Body.{Constant, global_constant, primitive_constant, record_at, text_at}
 use Rattle.hir.specs.Lists.{Mem}
 use Rattle.hir.specs.Places.{binding_name}
 use Rattle.runs.specs.Folds.{literal_value}
 use Rattle.runs.specs.Runs.{Assignment, Value, World, assigned, assigning, plain, value_of}
-use Rattle.std.proofs.lemmas.Bool.{cases_eq, cond-false, cond-true, eq-eqb, ne_eqb}
+use Rattle.std.proofs.lemmas.Bool.{cases_eq, eq-eqb, ne_eqb}
 use Rattle.std.specs.Option.{option_map}
 
 -- what a constant says, without numbers of texts: a primitive value, or the value of a global name
@@ -46,25 +46,25 @@ pub true_look : (w : World) (κ : Knowledge) (t : List Assignment) (x : ℕ) (k 
 true_look w κ [] x k tr m e = absurd m
 true_look w κ (a ∷ t) x k tr m e =
     elim (cases_eq a.place x) [
-      | inl h ↦ cond-true _ _ _ (eq-eqb a.place x h) ∙ tr a (inl refl) k (subst (λ (y : ℕ). κ y ≡ Some k) (sym h) e)
-      | inr n ↦ cond-false _ _ _ (ne_eqb a.place x n) ∙ true_look w κ t x k (λ b q. tr b (inr q)) (later m n) e
+      | inl h ↦ rw (eq-eqb a.place x h) (tr a (inl refl) k (rw h e))
+      | inr n ↦ rw (ne_eqb a.place x n) (true_look w κ t x k (λ b q. tr b (inr q)) (elim m [ inl h ↦ absurd (n (sym h)) | inr h ↦ h ]) e)
     ]
-  where
-    later : Mem x (places (a ∷ t)) → (a.place ≡ x → ⊥) → Mem x (places t)
-    later (inl h) n = absurd (n (sym h))
-    later (inr h) n = h
 
 pub true_more : (w : World) (κ : Knowledge) (x : ℕ) (v : Value) (t : List Assignment) → True w κ t → ((k : Known) → κ x ≡ Some k → v ≡ in_world w k) → True w κ (assigned x v ∷ t)
-true_more w κ x v t tr f a (inl e) k h = subst (λ (b : Assignment). κ b.place ≡ Some k → b.value' ≡ in_world w k) (sym e) (λ q. f k q) h
+true_more w κ x v t tr f a (inl e) k h = rw e (f k (rw e at h))
 true_more w κ x v t tr f a (inr m) k h = tr a m k h
 
 -- ---- assigning values in order
 
+-- the values are what is known, where something is
+abbrev pub Computes : World → List (Option Known) → List Value → Type 0
+Computes w [] vs = Unit {0}
+Computes w (y ∷ ys) [] = ⊥
+Computes w (y ∷ ys) (v ∷ vs) = ((k : Known) → y ≡ Some k → v ≡ in_world w k) × Computes w ys vs
+
 -- each known place gets its value
 abbrev pub Fitting : World → Knowledge → List ℕ → List Value → Type 0
-Fitting w κ [] vs = Unit {0}
-Fitting w κ (x ∷ xs) [] = ⊥
-Fitting w κ (x ∷ xs) (v ∷ vs) = ((k : Known) → κ x ≡ Some k → v ≡ in_world w k) × Fitting w κ xs vs
+Fitting w κ xs vs = Computes w (map κ xs) vs
 
 pub assigning_true : (w : World) (κ : Knowledge) (xs : List ℕ) (vs : List Value) (t : List Assignment) → Fitting w κ xs vs → True w κ t → True w κ (assigning xs vs t)
 assigning_true w κ [] vs t f tr = tr
@@ -72,9 +72,6 @@ assigning_true w κ (x ∷ xs) [] t f tr = absurd f
 assigning_true w κ (x ∷ xs) (v ∷ vs) t f tr = assigning_true w κ xs vs (assigned x v ∷ t) f.1 (true_more w κ x v t tr f.0)
 
 pub assigning_has : (w : World) (κ : Knowledge) (xs : List ℕ) (vs : List Value) (t : List Assignment) → Fitting w κ xs vs → (x : ℕ) → Mem x xs ⊎ Mem x (places t) → Mem x (places (assigning xs vs t))
-assigning_has w κ [] vs t f x (inl m) = absurd m
-assigning_has w κ [] vs t f x (inr m) = m
+assigning_has w κ [] vs t f x m = grind arith
 assigning_has w κ (y ∷ xs) [] t f x m = absurd f
-assigning_has w κ (y ∷ xs) (v ∷ vs) t f x (inl (inl e)) = assigning_has w κ xs vs (assigned y v ∷ t) f.1 x (inr (inl e))
-assigning_has w κ (y ∷ xs) (v ∷ vs) t f x (inl (inr m)) = assigning_has w κ xs vs (assigned y v ∷ t) f.1 x (inl m)
-assigning_has w κ (y ∷ xs) (v ∷ vs) t f x (inr m) = assigning_has w κ xs vs (assigned y v ∷ t) f.1 x (inr (inr m))
+assigning_has w κ (y ∷ xs) (v ∷ vs) t f x m = assigning_has w κ xs vs (assigned y v ∷ t) f.1 x (grind arith)

@@ -1,6 +1,6 @@
 -- What the proof keeps of a body's blocks: each identifier is assigned once, on every path before its uses; and what is known is justified
 -- by the instruction or phi that assigns it.
-use Rattle.std.proofs.Common.{◌≡◌, ℕ, ◌+◌, ◌≤◌, List, [], ◌∷◌, ◌++◌, map, Some, None, Option}
+use Rattle.std.proofs.Common.{◌≡◌, ℕ, ◌+◌, ◌≤◌, List, [], ◌∷◌, ◌++◌, map, Some, None, Option, refl, append_assoc}
 use Rattle.hir.specs.Body.{block_at, graph_of}
 use Rattle.hir.specs.Graph.{Path}
 use Rattle.hir.specs.Lists.{Mem, count, flat_map, total}
@@ -10,6 +10,10 @@ use Rattle.runs.proofs.Senses.{Known, Knowledge}
 use Rattle.runs.proofs.Yields.{yields}
 use Rattle.runs.specs.Folds.{Conversions}
 use Rattle.runs.specs.Runs.{operand_from}
+
+pub flat_append : {A B : Type 0} (f : A → List B) (xs ys : List A) → flat_map f (xs ++ ys) ≡ flat_map f xs ++ flat_map f ys
+flat_append f [] ys = refl
+flat_append f (x ∷ xs) ys = simp (flat_append f xs ys, append_assoc)
 
 -- ---- what is assigned
 

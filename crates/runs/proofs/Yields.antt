@@ -1,6 +1,6 @@
 -- What an instruction gives by what is known of what it reads, and that it gives just that in every run that is true to it.
 use lib.Ieee.{Float}
-use Rattle.std.proofs.Common.{◌≡◌, ℕ, List, [], ◌∷◌, map, Some, None, Option, refl, ap, ◌∙◌, subst, inl, inr}
+use Rattle.std.proofs.Common.{◌≡◌, ℕ, List, [], ◌∷◌, map, Some, None, Option, refl, ap, ◌∙◌, subst, inl, inr, arith}
 use Rattle.ecma.specs.declared.operators.UpdateOperator.{UpdateOperator}
 use Rattle.ecma.specs.Value.{Primitive}
 use Rattle.ecma.specs.Value as value
@@ -8,11 +8,12 @@ use Rattle.hir.specs.Body.{text_at}
 use Rattle.hir.specs.Lists.{Mem}
 use Rattle.hir.specs.Places.{binding_name, reads}
 use Rattle.hir.specs.Script.{Instruction}
-use Rattle.hir.specs.Script.{load_local, store_local, primitive, binary, unary, property_store, property_load, computed_store, computed_load, load_global, template, prefix_update, postfix_update, start_memoize, opaque}
-use Rattle.runs.proofs.Monotone.{AllBelow, Below, bind_below, bind_first_below, fold_below, mapped_below, values_below}
-use Rattle.runs.proofs.Senses.{Has, Known, Knowledge, True, glob, in_world, prim, true_look}
+use Rattle.hir.specs.Script.{load_local, store_local, primitive, binary, unary, property_load, computed_load, load_global, template, prefix_update, postfix_update, opaque}
+use Rattle.runs.proofs.Monotone.{AllBelow, Below, bind_below, fold_below, mapped_below, maps_below, within_self}
+use Rattle.runs.proofs.Senses.{Computes, Has, Known, Knowledge, True, glob, in_world, prim, true_look}
 use Rattle.runs.specs.Folds.{Conversions, Within, always, bind, fold, key_value, length_fold, literal_value, updated}
 use Rattle.runs.specs.Runs.{Assignment, EventKind, Meaning, Value, World, computes, meaning, or_tells, plain, primitive_in, tells, updating, value_of}
+use Rattle.std.proofs.lemmas.Option.{same_Some}
 use Rattle.std.specs.Option.{option_map}
 
 abbrev pub prim_of : Known → Option Primitive
@@ -24,85 +25,60 @@ prim_at κ y = bind (κ y) prim_of
 
 -- the Number after an update, and what the place had before it, if that is a Number
 abbrev pub new_at : Knowledge → UpdateOperator → ℕ → Option Known
-new_at κ o y = option_map (λ (x : Float). prim (value.number x)) (bind (prim_at κ y) (updated o))
+new_at κ o y = bind (bind (prim_at κ y) (updated o)) (λ x. Some (prim (value.number x)))
 
 abbrev pub old_at : Knowledge → UpdateOperator → ℕ → Option Known
 old_at κ o y = bind (bind (prim_at κ y) (updated o)) (λ x. κ y)
 
+-- what else folds gives what it folds to; the others give nothing
 abbrev pub yields : Conversions → List (List ℕ) → Knowledge → Instruction → List (Option Known)
 yields c T κ (load_local x y s) = κ y ∷ []
 yields c T κ (store_local x p k y s) = κ y ∷ κ y ∷ []
 yields c T κ (primitive x l s) = Some (prim (literal_value T l)) ∷ []
-yields c T κ (binary x o y z s) = option_map prim (fold c T (binary x o y z s) (map (prim_at κ) (y ∷ z ∷ []))) ∷ []
-yields c T κ (unary x o y s) = option_map prim (fold c T (unary x o y s) (map (prim_at κ) (y ∷ []))) ∷ []
-yields c T κ (property_store x o p v s) = None ∷ []
-yields c T κ (property_load x o p s) = option_map prim (fold c T (property_load x o p s) (map (prim_at κ) (o ∷ []))) ∷ []
-yields c T κ (computed_store x o p v s) = None ∷ []
-yields c T κ (computed_load x o p s) = None ∷ []
 yields c T κ (load_global x b s) = Some (glob (text_at T (binding_name b))) ∷ []
-yields c T κ (template x ys qs s) = option_map prim (fold c T (template x ys qs s) (map (prim_at κ) ys)) ∷ []
 yields c T κ (prefix_update x p o y s) = new_at κ o y ∷ new_at κ o y ∷ []
 yields c T κ (postfix_update x p o y s) = old_at κ o y ∷ new_at κ o y ∷ []
-yields c T κ (start_memoize x m ds i s) = None ∷ []
 yields c T κ (opaque k ys xs) = map (λ x. None) xs
+yields c T κ i = option_map prim (fold c T i (map (prim_at κ) (reads i))) ∷ []
 
 -- ---- more knowledge yields more
 
 abbrev pub More : Knowledge → Knowledge → Type 0
 More κ μ = (x : ℕ) → Below (κ x) (μ x)
 
-module _ (κ μ : Knowledge) (m : (x : ℕ) → Below (κ x) (μ x)) where
+module _ (κ μ : Knowledge) (m : More κ μ) where
   prim_more : (y : ℕ) → Below (prim_at κ y) (prim_at μ y)
-  prim_more y = bind_first_below (κ y) (μ y) prim_of (m y)
+  prim_more y = bind_below (κ y) (μ y) prim_of prim_of (m y) (λ x k e. e)
 
-  prims_more : (ys : List ℕ) → AllBelow (map (prim_at κ) ys) (map (prim_at μ) ys)
-  prims_more [] = tt
-  prims_more (y ∷ ys) = (prim_more y, prims_more ys)
+  updated_more : (o : UpdateOperator) (y : ℕ) → Below (bind (prim_at κ y) (updated o)) (bind (prim_at μ y) (updated o))
+  updated_more o y = bind_below _ _ _ _ (prim_more y) (λ x k e. e)
 
   new_more : (o : UpdateOperator) (y : ℕ) → Below (new_at κ o y) (new_at μ o y)
-  new_more o y = mapped_below _ _ _ (bind_first_below (prim_at κ y) (prim_at μ y) (updated o) (prim_more y))
+  new_more o y = bind_below _ _ _ _ (updated_more o y) (λ x k e. e)
 
   old_more : (o : UpdateOperator) (y : ℕ) → Below (old_at κ o y) (old_at μ o y)
-  old_more o y k e =
-      bind_below (bind (prim_at μ y) (updated o)) (λ x. κ y) (λ x. μ y) (λ x. m y) k
-      (bind_first_below (bind (prim_at κ y) (updated o)) (bind (prim_at μ y) (updated o)) (λ x. κ y) (bind_first_below (prim_at κ y) (prim_at μ y) (updated o) (prim_more y)) k e)
+  old_more o y = bind_below _ _ _ _ (updated_more o y) (λ x. m y)
 
-  none_more : (xs : List ℕ) → AllBelow {A = Known} (map (λ x. None) xs) (map (λ x. None) xs)
-  none_more [] = tt
-  none_more (x ∷ xs) = ((λ k e. e), none_more xs)
-
-  fold_more : (c : Conversions) (T : List (List ℕ)) (i : Instruction) (ys : List ℕ) → Below (option_map prim (fold c T i (map (prim_at κ) ys))) (option_map prim (fold c T i (map (prim_at μ) ys)))
-  fold_more c T i ys = mapped_below prim _ _ (values_below c T i (map (prim_at κ) ys) (map (prim_at μ) ys) (prims_more ys))
+  fold_more : (c : Conversions) (T : List (List ℕ)) (i : Instruction) → Below (option_map prim (fold c T i (map (prim_at κ) (reads i)))) (option_map prim (fold c T i (map (prim_at μ) (reads i))))
+  fold_more c T i = mapped_below prim _ _ (fold_below c c (within_self c) T i (map (prim_at κ) (reads i)) (map (prim_at μ) (reads i)) (maps_below (prim_at κ) (prim_at μ) prim_more (reads i)))
 
   pub yields_more : (c : Conversions) (T : List (List ℕ)) (i : Instruction) → AllBelow (yields c T κ i) (yields c T μ i)
   yields_more c T (load_local x y s) = (m y, tt)
   yields_more c T (store_local x p k y s) = (m y, (m y, tt))
   yields_more c T (primitive x l s) = ((λ k e. e), tt)
-  yields_more c T (binary x o y z s) = (fold_more c T (binary x o y z s) (y ∷ z ∷ []), tt)
-  yields_more c T (unary x o y s) = (fold_more c T (unary x o y s) (y ∷ []), tt)
-  yields_more c T (property_store x o p v s) = ((λ k e. e), tt)
-  yields_more c T (property_load x o p s) = (fold_more c T (property_load x o p s) (o ∷ []), tt)
-  yields_more c T (computed_store x o p v s) = ((λ k e. e), tt)
-  yields_more c T (computed_load x o p s) = ((λ k e. e), tt)
   yields_more c T (load_global x b s) = ((λ k e. e), tt)
-  yields_more c T (template x ys qs s) = (fold_more c T (template x ys qs s) ys, tt)
   yields_more c T (prefix_update x p o y s) = (new_more o y, (new_more o y, tt))
   yields_more c T (postfix_update x p o y s) = (old_more o y, (new_more o y, tt))
-  yields_more c T (start_memoize x n ds i s) = ((λ k e. e), tt)
-  yields_more c T (opaque k ys xs) = none_more xs
+  yields_more c T (opaque k ys xs) = maps_below _ _ (λ x k e. e) xs
+  yields_more c T i = (fold_more c T i, tt)
 
 -- ---- and a run computes it
-
--- a meaning gives what is yielded; where it tells an event, nothing is
-abbrev pub Computes : World → List (Option Known) → List Value → Type 0
-Computes w [] vs = Unit {0}
-Computes w (y ∷ ys) [] = ⊥
-Computes w (y ∷ ys) (v ∷ vs) = ((k : Known) → y ≡ Some k → v ≡ in_world w k) × Computes w ys vs
 
 abbrev pub Nothing : List (Option Known) → Type 0
 Nothing [] = Unit {0}
 Nothing (y ∷ ys) = (y ≡ None) × Nothing ys
 
+-- a meaning gives what is yielded; where it tells an event, nothing is
 abbrev pub Means : World → List (Option Known) → Meaning → Type 0
 Means w ys (computes vs) = Computes w ys vs
 Means w ys (tells k vs) = Nothing ys
@@ -127,62 +103,46 @@ module _ (w : World) (c : Conversions) (agree : Within c (always w.conversions))
   told : (y r : Option Primitive) (k : EventKind) (vs : List Value) → Below y r → Means w (option_map prim y ∷ []) (or_tells r k vs)
   told None None k vs b = (refl, tt)
   told None (Some v) k vs b = ((λ j e. cc), tt)
-  told (Some u) None k vs b = (let h = b u refl in cc, tt)
-  told (Some u) (Some v) k vs b = ((λ j e. (let h = b u refl in let same : v ≡ u = cc in let is : prim u ≡ j = cc in ap plain same ∙ ap (in_world w) is)), tt)
+  told (Some u) None k vs b = (cc (b u refl), tt)
+  told (Some u) (Some v) k vs b = ((λ j e. ap plain (same_Some v u (b u refl)) ∙ ap (in_world w) (same_Some (prim u) j e)), tt)
 
-  folds : (T : List (List ℕ)) (i : Instruction) (ys : List ℕ) → Has t ys → Below (fold c T i (map (prim_at κ) ys)) (fold (always w.conversions) T i (map primitive_in (map (value_of t) ys)))
-  folds T i ys h v e = fold_below c (always w.conversions) agree T i (map primitive_in (map (value_of t) ys)) v (values_below c T i (map (prim_at κ) ys) (map primitive_in (map (value_of t) ys)) (prims_look ys h) v e)
+  folds : (T : List (List ℕ)) (i : Instruction) → Has t (reads i) → Below (fold c T i (map (prim_at κ) (reads i))) (fold (always w.conversions) T i (map primitive_in (map (value_of t) (reads i))))
+  folds T i h = fold_below c (always w.conversions) agree T i _ _ (prims_look (reads i) h)
 
   getting_as : (T : List (List ℕ)) (x o : ℕ) (p : _) (s : _) (v : Value) → fold (always w.conversions) T (property_load x o p s) (primitive_in v ∷ []) ≡ length_fold (primitive_in v) (Some (key_value T p))
-  getting_as T x o p s v = by (primitive_in v)
-    where
-      by : (u : Option Primitive) → bind u (λ object. length_fold (Some object) (Some (key_value T p))) ≡ length_fold u (Some (key_value T p))
-      by None = refl
-      by (Some u) = refl
+  getting_as T x o p s v = grind arith
 
   -- an update, by what is known of the place and by what a run has there
   updates : (o : UpdateOperator) (y : ℕ) → Has t (y ∷ []) → Below (bind (prim_at κ y) (updated o)) (bind (primitive_in (value_of t y)) (updated o))
-  updates o y h = bind_first_below (prim_at κ y) (primitive_in (value_of t y)) (updated o) (prim_look y (h y (inl refl)))
+  updates o y h = bind_below _ _ _ _ (prim_look y (h y (inl refl))) (λ x k e. e)
 
   nothing : (xs : List ℕ) → Nothing (map (λ x. None) xs)
   nothing [] = tt
   nothing (x ∷ xs) = (refl, nothing xs)
 
-  prefix_means : (k : EventKind) (v : Value) (n r : Option Float) → Below n r
-      → Means w (option_map (λ x. prim (value.number x)) n ∷ option_map (λ x. prim (value.number x)) n ∷ []) (updating (λ old new. new ∷ new ∷ []) k v r)
-  prefix_means k v None None b = (refl, (refl, tt))
-  prefix_means k v None (Some x) b = ((λ j e. cc), ((λ j e. cc), tt))
-  prefix_means k v (Some x) None b = (let h = b x refl in cc, (let h = b x refl in cc, tt))
-  prefix_means k v (Some x) (Some z) b = let same : z ≡ x = some_same (b x refl) in (number_is same, (number_is same, tt))
-    where
-      some_same : {x z : Float} → Some z ≡ Some x → z ≡ x
-      some_same e = cc
-
-      number_is : {x z : Float} → z ≡ x → (j : Known) → Some (prim (value.number x)) ≡ Some j → plain (value.number z) ≡ in_world w j
-      number_is {x = x} {z = z} same j e = let is : prim (value.number x) ≡ j = cc in ap (λ (f : Float). plain (value.number f)) same ∙ ap (in_world w) is
-
-  postfix_means : (k : EventKind) (v : Value) (old : Option Known) (n r : Option Float) → Below n r → ((j : Known) → old ≡ Some j → v ≡ in_world w j)
-      → Means w (bind n (λ x. old) ∷ option_map (λ x. prim (value.number x)) n ∷ []) (updating (λ old new. old ∷ new ∷ []) k v r)
-  postfix_means k v old None None b f = (refl, (refl, tt))
-  postfix_means k v old None (Some x) b f = ((λ j e. cc), ((λ j e. cc), tt))
-  postfix_means k v old (Some x) None b f = (let h = b x refl in cc, (let h = b x refl in cc, tt))
-  postfix_means k v old (Some x) (Some z) b f = (f, ((prefix_means k v (Some x) (Some z) b).0, tt))
+  updates_mean : (f : Value → Value → Value) (first : Float → Option Known) (k : EventKind) (v : Value) (n r : Option Float) → Below n r
+      → ((x : Float) (j : Known) → first x ≡ Some j → f v (plain (value.number x)) ≡ in_world w j)
+      → Means w (bind n first ∷ bind n (λ x. Some (prim (value.number x))) ∷ []) (updating (λ old new. f old new ∷ new ∷ []) k v r)
+  updates_mean f first k v None None b g = (refl, (refl, tt))
+  updates_mean f first k v None (Some z) b g = ((λ j e. cc), ((λ j e. cc), tt))
+  updates_mean f first k v (Some x) None b g = (cc (b x refl), (cc (b x refl), tt))
+  updates_mean f first k v (Some x) (Some z) b g =
+      let same = same_Some z x (b x refl) in
+      ((λ j e. rw same (g x j e)), ((λ j e. rw same (ap (in_world w) (same_Some (prim (value.number x)) j e))), tt))
 
   -- What is yielded is what the instruction comes to in a run, where all that it reads has been assigned.
   pub means : (T : List (List ℕ)) (i : Instruction) → Has t (reads i) → Means w (yields c T κ i) (meaning w T i (map (value_of t) (reads i)))
   means T (load_local x y s) h = (look y (h y (inl refl)), tt)
   means T (store_local x p k y s) h = (look y (h y (inl refl)), (look y (h y (inl refl)), tt))
-  means T (primitive x l s) h = ((λ k e. (let is : prim (literal_value T l) ≡ k = cc in ap (in_world w) is)), tt)
-  means T (binary x o y z s) h = told _ _ _ _ (folds T (binary x o y z s) (y ∷ z ∷ []) h)
-  means T (unary x o y s) h = told _ _ _ _ (folds T (unary x o y s) (y ∷ []) h)
-  means T (property_store x o p v s) h = (refl, tt)
+  means T (primitive x l s) h = ((λ k e. ap (in_world w) (same_Some (prim (literal_value T l)) k e)), tt)
+  means T (binary x o y z s) h = told _ _ _ _ (folds T (binary x o y z s) h)
+  means T (unary x o y s) h = told _ _ _ _ (folds T (unary x o y s) h)
   means T (property_load x o p s) h =
-      told _ _ _ _ (subst (λ (r : Option Primitive). Below (fold c T (property_load x o p s) (map (prim_at κ) (o ∷ []))) r) (getting_as T x o p s (value_of t o)) (folds T (property_load x o p s) (o ∷ []) h))
-  means T (computed_store x o p v s) h = (refl, tt)
+      told _ _ _ _ (subst (λ (r : Option Primitive). Below (fold c T (property_load x o p s) (map (prim_at κ) (o ∷ []))) r) (getting_as T x o p s (value_of t o)) (folds T (property_load x o p s) h))
   means T (computed_load x o p s) h = told None (length_fold (primitive_in (value_of t o)) (primitive_in (value_of t p))) _ _ (λ v e. cc)
-  means T (load_global x b s) h = ((λ k e. (let is : glob (text_at T (binding_name b)) ≡ k = cc in ap (in_world w) is)), tt)
-  means T (template x ys qs s) h = told _ _ _ _ (folds T (template x ys qs s) ys h)
-  means T (prefix_update x p o y s) h = prefix_means _ _ _ _ (updates o y h)
-  means T (postfix_update x p o y s) h = postfix_means _ _ (κ y) _ _ (updates o y h) (look y (h y (inl refl)))
-  means T (start_memoize x m ds i s) h = (refl, tt)
+  means T (load_global x b s) h = ((λ k e. ap (in_world w) (same_Some (glob (text_at T (binding_name b))) k e)), tt)
+  means T (template x ys qs s) h = told _ _ _ _ (folds T (template x ys qs s) h)
+  means T (prefix_update x p o y s) h = updates_mean (λ old new. new) _ _ _ _ _ (updates o y h) (λ x j e. ap (in_world w) (same_Some (prim (value.number x)) j e))
+  means T (postfix_update x p o y s) h = updates_mean (λ old new. old) (λ x. κ y) _ _ _ _ (updates o y h) (λ x. look y (h y (inl refl)))
   means T (opaque k ys xs) h = nothing xs
+  means T i h = (refl, tt)

@@ -6,6 +6,7 @@ pub fn folds_are_monotone()
     ensures { FoldsAreMonotone }
 {}
 
+#[tactic(auto, using(crate::proofs::Counted::turned_within))]
 pub fn turned_within_sealed()
     ensures { TurnedWithinSealed }
 {}

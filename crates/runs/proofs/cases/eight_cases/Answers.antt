@@ -1,27 +1,11 @@
-use lib.Count.{count_trailing_zeros}
-use lib.Ieee.{add, div, eq, is_nan, lt, mul, neg, odd, of_int, round, size, span, climb, sum, units}
-use Rattle.std.proofs.Common.{[], ◌∷◌, refl}
+use lib.Ieee.{eq, is_nan, lt, of_int}
+use Rattle.std.proofs.Common.{rules, [], ◌∷◌, refl}
 use Rattle.ecma.specs.Integer.{to_int32, to_uint32, bit_string, integer_of, modulo, truncate}
-use Rattle.ecma.specs.Number.{number_bitwise_or, number_remainder, number_unsigned_right_shift, is_zero}
+use Rattle.ecma.specs.Number.{number_bitwise_or, number_remainder, number_unsigned_right_shift}
 use Rattle.hir.proofs.Certificates.{accepted}
 use Rattle.runs.proofs.cases.eight_cases.Goals as goal
 use Rattle.runs.specs.Cases.{two_branches}
 
 pub returns : goal.returns
-unfolding count_trailing_zeros add div eq is_nan lt mul neg odd of_int round size span climb sum units to_int32 to_uint32 bit_string integer_of modulo truncate number_bitwise_or number_remainder number_unsigned_right_shift is_zero
-returns c = record {
-  unsigned = refl;
-  wrapping = refl;
-  negative_zero = refl;
-  null_and_zero = refl;
-  true_and_one = refl;
-  three_units = refl;
-  one_nan = refl;
-  two_nans = refl;
-  accepted = accepted 4 (record { assigned = [] ∷ [] ∷ [] ∷ [] ∷ []; held = [] }) two_branches refl refl;
-  turned = refl;
-  one_turned = refl;
-  aside = refl;
-  returned = refl;
-  no_phi_left = refl;
-}
+unfolding eq is_nan lt of_int to_int32 to_uint32 bit_string integer_of modulo truncate number_bitwise_or number_remainder number_unsigned_right_shift
+returns c = search (rules, accepted 4 (record { assigned = [] ∷ [] ∷ [] ∷ [] ∷ []; held = [] }) two_branches refl refl)
