@@ -11,7 +11,8 @@ mod pieces;
 
 const LIMIT: usize = 65536;
 
-// How many bytes of the pool may be used. Not by table's capacity: a kind of number for the pool's bytes would be longer.
+// How many bytes of the pool may be used.
+// Not by table's capacity: a kind of number for the pool's bytes would be longer.
 pub fn capacity(pool: &[u8]) -> usize
     ensures { result ≡ bytes_room pool.now }
 {
@@ -74,8 +75,8 @@ impl<'m> Making<'m> {
         }
     }
 
-    // Adds bytes; nothing is done where they do not fit. An Option and no Result, here and at push_part: missing pieces are
-    // asked for first, so that who calls knows why it failed.
+    // Adds bytes; nothing is done where they do not fit.
+    // No Result here and at push_part: who calls knows why it failed, since missing pieces are asked for first.
     pub fn push(&mut self, pool: &mut [u8], piece: &[u8]) -> Option<()>
         ensures unchanged { OnlyBytes self.old self.new }
         ensures test { is_some result ≡ nat_le (self.old.mark.now.bytes + length piece.now) (bytes_room pool.old) }

@@ -54,8 +54,7 @@ pub type PhiId = Id<Phis>;
 
 pub type TextId = Id<Texts>;
 
-// Each kind is a type of its own, and not a const parameter for the limit: identifiers and texts have one limit, and
-// their numbers must not be taken for one another.
+// A type for each kind, though identifiers and texts have one limit: their numbers must not be taken for one another.
 impl IdKind for Blocks {
     ghost LIMIT = { 1024 };
 
