@@ -15,8 +15,8 @@ pub data Constant : Type 0 where
   global_constant : Binding → Option Span → Constant
 
 -- A block **stands** if the entry reached it at the seal and at each tidy since; the others are **set aside**. The **record** of an
--- identifier is the constant that a round found for it, if one did. `sealedIfs` counts the Ifs at the seal, in all blocks, and
--- `turnedIfs` those that rounds have turned into Gotos.
+-- identifier is the constant that a round found for it, if one did. `sealed_ifs` counts the Ifs at the seal, in all blocks, and
+-- `turned_ifs` those that rounds have turned into Gotos.
 pub record Body : Type 0 where
   pub texts : List (List ℕ)
   pub parameters : List ℕ

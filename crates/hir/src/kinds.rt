@@ -31,7 +31,8 @@ pub enum LogicalOperator {
     Coalesce,
 }
 
-// The kinds of instruction that are opaque: only what they read and write is held.
+// The kinds of instruction that are opaque: only what they read and write is held. A script's definitions name them;
+// `InstructionValue` has a case for each.
 #[derive(Clone, Copy)]
 pub enum OpaqueKind {
     DeclareLocal,

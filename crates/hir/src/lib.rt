@@ -1,5 +1,6 @@
 // What a script is made of: kinds, operators, terminals and instructions, as the Rust's `hir` has them. Its
-// vectors are ranges of tables here, and its strings are numbers of texts. What they mean is in specs/.
+// vectors are ranges of tables here, and its strings are numbers of texts. Definitions in specs/ speak of scripts with
+// lists in their places; which script the tables hold is to come.
 #![tactic(auto)]
 
 mod block;

@@ -1,7 +1,7 @@
 ghost use Rattle.hir.specs.Accepted.{Acceptance};
 ghost use Rattle.hir.specs.Examples.{OneRefusal, SealExamples};
 
-// Their contracts are theorems about the definitions; they compute nothing.
+// Functions whose contracts are theorems about the definitions. They compute nothing.
 #[tactic(auto, using(crate::proofs::OneRefusal::one_refusal))]
 pub fn one_refusal()
     ensures { OneRefusal }

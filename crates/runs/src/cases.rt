@@ -1,4 +1,4 @@
-// Their contracts are theorems about the definitions; they compute nothing.
+// Functions whose contracts are theorems about the definitions. They compute nothing.
 ghost use Rattle.runs.specs.Cases.{EightCases};
 ghost use Rattle.runs.specs.Examples.{RunExamples};
 
