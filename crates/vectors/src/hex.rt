@@ -1,5 +1,5 @@
 // Numbers in hexadecimal, with upper-case digits.
-ghost use Rattle.std.specs.Prelude.{◌≡◌, [], ◌∷◌, length, if◌then◌else◌, None, nat_eq};
+ghost use Rattle.std.specs.Prelude.{◌≡◌, [], ◌∷◌, ◌≤◌, length, if◌then◌else◌, None, nat_eq};
 ghost use Rattle.vectors.specs.Hex.{digit_of, number};
 
 fn digit(byte: u8) -> Option<u8>
@@ -12,20 +12,27 @@ fn digit(byte: u8) -> Option<u8>
     }
 }
 
-// One byte's digits, which need no loop.
 pub fn byte(high: u8, low: u8) -> Option<u8>
     ensures { result ≡ number (high ∷ low ∷ []) }
 {
-    Some(digit(high)? * 16 + digit(low)?)
+    u8::try_from(number(&[high, low])?).ok()
 }
 
-// The number of sixteen digits. Not from_str_radix, which takes lower case and a sign.
+// The number of sixteen digits.
 pub fn word(digits: &[u8]) -> Option<u64>
     ensures { result ≡ (if nat_eq (length digits.now) 16 then number digits.now else None) }
 {
     if digits.len() != 16 {
         return None;
     }
+    number(digits)
+}
+
+// The number of some digits. Not by from_str_radix, which takes lower case and a sign.
+fn number(digits: &[u8]) -> Option<u64>
+    requires { length digits.now ≤ 16 }
+    ensures { result ≡ number digits.now }
+{
     let mut number = 0;
     for byte in digits {
         number = number * 16 + u64::from(digit(*byte)?);

@@ -5,7 +5,7 @@ use Rattle.std.proofs.lemmas.List.{at_drop_more}
 use Rattle.std.proofs.lemmas.Bool.Decides.{nat_tests}
 use Rattle.vectors.specs.Hex.{digit_of, number_after}
 use Rattle.std.specs.Option.{option_and_then}
-use Rattle.vectors.proofs.hex.word.Goals as goal
+use Rattle.vectors.proofs.hex.number.Goals as goal
 
 small : (b d : ℕ) → Some d ≡ digit_of b → d < 16
 small b d e = grind (arith, nat_tests)

@@ -1,6 +1,6 @@
 use Rattle.std.proofs.Common.{◌≡◌, ◌^◌, ◌<◌, drop}
 use Rattle.vectors.specs.Hex.{number, number_after}
-use Rattle.vectors.proofs.hex.word.Given as goal
+use Rattle.vectors.proofs.hex.number.Given as goal
 
 -- what is left of the digits completes the number
 abbrev pub invariant-loop-byte : goal.invariant-loop-byte
