@@ -5,21 +5,26 @@ ghost use Rattle.std.proofs.Math.Seq.{paste};
 
 use crate::mark::Mark;
 use crate::row::TextRow;
-use table::{Id, TextId, write};
+use table::{Id, IdKind, TextId, write};
 
 mod pieces;
 
-const LIMIT: usize = 65536;
+// The kind of a place in the pool's bytes.
+struct Places;
+
+impl IdKind for Places {
+    ghost LIMIT = { 65536 };
+
+    const LIMIT: u32 = 65536;
+}
 
 // How many bytes of the pool may be used.
-// Not by table's capacity: a kind of number for the pool's bytes would be longer.
 pub fn capacity(pool: &[u8]) -> usize
     ensures { result ≡ bytes_room pool.now }
 {
-    pool.len().min(LIMIT)
+    table::capacity::<Places, u8>(pool)
 }
 
-#[tactic(auto, using(std::proofs::lemmas::Slice::overwrites))]
 fn overwrite(pool: &mut [u8], at: usize, piece: &[u8])
     requires { at + length piece.now ≤ length pool.old }
     ensures { pool.new ≡ paste pool.old at piece.now (length piece.now) }
