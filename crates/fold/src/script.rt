@@ -8,7 +8,8 @@ use ecma::UnaryOperator::{Minus, Not};
 
 pub const LENGTH: usize = 33;
 
-// The air supply of a small house: each instruction with what it stands for.
+// The air supply of a small house: each instruction with what it stands for. Instructions name one another by number, as in
+// any script.
 pub const SCRIPT: [(&str, Operation); LENGTH] = [
     ("floor length, m", Literal(12.5)),
     ("floor width, m", Literal(8.4)),

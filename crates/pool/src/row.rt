@@ -1,6 +1,6 @@
 ghost use Rattle.std.specs.Prelude.{◌≡◌, ◌+◌};
 
-// Where a text stands in the pool.
+// Where a text stands in the pool: by numbers, since the memory is lent for each call anew.
 #[derive(Clone, Copy, PartialEq, Eq, Debug)]
 pub struct TextRow {
     pub start: u32,

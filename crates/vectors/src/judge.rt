@@ -23,6 +23,7 @@ pub enum Flaw {
     Wrong,
 }
 
+// By hand, since a derived one would put the error into the case.
 impl From<Malformed> for Flaw {
     fn from(_malformed: Malformed) -> Flaw {
         Flaw::Malformed

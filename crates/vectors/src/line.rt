@@ -31,7 +31,7 @@ impl From<CapacityError<u8>> for Malformed {
     }
 }
 
-// What is left of a line.
+// What is left of a line. Each method's clause says what it took from the front of that.
 #[derive(Drop)]
 pub struct Line<'a> {
     rest: &'a [u8],
@@ -196,7 +196,7 @@ impl<'a> Line<'a> {
     }
 }
 
-// The number with these bits. Of the many patterns of a NaN one is taken.
+// The number with these bits. Of the many patterns of a NaN one is taken, and so no method of std's does it.
 fn number_of(digits: &[u8]) -> Result<f64, Malformed>
     ensures len { OnOk result (length digits.now ≡ 16) }
     ensures value { IfOk result (λ x. option_map (from_bits binary64) (number digits.now) ≡ Some x) }

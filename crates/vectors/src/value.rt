@@ -20,6 +20,7 @@ pub enum Value {
 }
 
 impl Value {
+    // A borrow, as `as_str` is, and no From.
     pub fn view(&self) -> PrimitiveValue<'_>
         ensures { value_of result ≡ meaning_of self.now }
     {

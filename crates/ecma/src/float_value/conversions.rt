@@ -4,6 +4,7 @@ ghost use Rattle.std.specs.Prelude.{◌≡◌, to_bits};
 
 use super::FloatValue;
 
+// Under the Rust's names, and no From.
 impl FloatValue {
     #[tactic(auto, using(crate::proofs::Stored::as_stored))]
     pub fn new(value: f64) -> Self
