@@ -1,5 +1,5 @@
 // Truth and equality of values.
-ghost use Rattle.ecma.specs.Comparison.{AsksOnly, is_loosely_equal, is_strictly_equal, same_value, to_boolean, to_number, converted_text, number_equals, numeric_of};
+ghost use Rattle.ecma.specs.Comparison.{AsksOnly, is_loosely_equal, is_strictly_equal, same_value, to_boolean, converted_text, number_equals, numeric_of};
 ghost use Rattle.ecma.specs.Value.{value_of};
 ghost use Rattle.std.specs.Option.{option_map};
 ghost use Rattle.std.specs.Prelude.{◌≡◌, Decides};

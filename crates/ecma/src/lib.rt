@@ -1,5 +1,5 @@
 // ECMAScript's primitive values and what its operators give at them, each proved to be what
-// ECMA-262 defines (specs/). No text is made here, and nothing is kept.
+// ECMA-262 defines (specs/), and how its binary operators are spelled. No text is made here, and nothing is kept.
 #![tactic(auto)]
 
 mod comparison;

@@ -1,4 +1,6 @@
-// A value that folds. A String is the bytes of its UTF-8 text, which stand elsewhere.
+// A value that folds. A String is the bytes of its UTF-8 text, which stand elsewhere. One generic enum with `hir`'s was
+// tried: with the text as its parameter the borrow checker covers none of these functions; with the number too, `==` on it
+// asks for facts about lifetimes that only the prover's own names could state.
 ghost use Rattle.ecma.specs.Value.{number, value_of};
 ghost use Rattle.ecma.specs.declared.primitive_value.PrimitiveValue.TheVariants.{Boolean};
 ghost use Rattle.std.specs.Prelude.{◌≡◌};

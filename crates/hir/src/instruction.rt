@@ -110,7 +110,7 @@ pub enum InstructionValue {
     StartMemoize {
         manual_memo_id: u32,
         deps: Option<ListRange>,
-        // beside deps and not in it: both are the Rust's, and each is read without the other
+        // beside deps and not in it, as in the Rust
         has_invalid_deps: bool,
         span: Option<Span>,
     },

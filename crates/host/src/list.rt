@@ -1,5 +1,5 @@
 // A host that answers from lists.
-ghost use Rattle.std.specs.Prelude.{◌≡◌, ◌&&◌, Some, length, nat_le};
+ghost use Rattle.std.specs.Prelude.{◌≡◌, ◌&&◌, Some};
 ghost use Rattle.host.specs.Answers.{Bounded};
 ghost use Rattle.ecma.specs.Number.{number_same_value};
 ghost use Rattle.host.specs.ListHost.{can_be_number_text, listed_name, listed_number, listed_text};

@@ -80,8 +80,8 @@ impl<'m> Making<'m> {
         }
     }
 
-    // Adds bytes; nothing is done where they do not fit.
-    // No Result here and at push_part: who calls knows why it failed, since missing pieces are asked for first.
+    // Adds bytes; nothing is done where they do not fit. Here and in the methods like it an Option and no Result: none of
+    // the refusals' causes says that a part is not below the text, or that a piece is missing.
     pub fn push(&mut self, pool: &mut [u8], piece: &[u8]) -> Option<()>
         ensures unchanged { OnlyBytes self.old self.new }
         ensures test { is_some result ≡ nat_le (self.old.mark.now.bytes + length piece.now) (bytes_room pool.old) }

@@ -2,7 +2,7 @@ ghost use Rattle.std.specs.Prelude.{ℕ, List, []};
 ghost use Rattle.pool.specs.Texts.{Holds};
 ghost use Rattle.pool.specs.declared.row.TextRow.{TextRow};
 
-// How much of a pool is used: its bytes, and its rows.
+// How much of a pool is used: its bytes, and its rows. Numbers, since the memory is lent for each call anew.
 #[derive(Clone, Copy, PartialEq, Eq, Debug)]
 pub struct Mark {
     pub bytes: u32,

@@ -15,7 +15,8 @@ use crate::row::TextRow;
 use table::{Cause, Layer, Refusal, Site, TextId, Texts, capacity, read};
 use text::is_utf8;
 
-// The row of a text, if the number names one. This and `text_bytes` read shared slices, of which no Pool can be made.
+// The row of a text, if the number names one. No methods of Pool, which cannot be made of
+// shared slices; and a struct of those would serve `text_bytes` alone, as `Making` asks for rows and holds no bytes.
 pub fn text_row(mark: &Mark, rows: &[TextRow], id: TextId) -> Option<TextRow>
     ensures { result ≡ (if nat_lt id.number mark.now.rows then entry 4096 rows.now id.number else None) }
 {

@@ -66,6 +66,7 @@ impl<'a, K: IdKind, T> Table<'a, K, T> {
         read(self.entries, id)
     }
 
+    // The answer is `write`'s.
     pub fn set(&mut self, id: Id<K>, value: T) -> bool
     where
         T: Drop,

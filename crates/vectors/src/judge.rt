@@ -1,6 +1,6 @@
 // Whether a line is right: whether the operations of `ecma` give what it says.
 ghost use Rattle.ecma.specs.Operators.{binary_fold};
-ghost use Rattle.ecma.specs.Value.{boolean, if_string, number, string, value_of};
+ghost use Rattle.ecma.specs.Value.{if_string, string, value_of};
 ghost use Rattle.std.specs.Option.{option_map};
 ghost use Rattle.std.specs.Prelude.{◌≡◌, [], ◌++◌, Some, Decides};
 ghost use Rattle.vectors.specs.Answers.{answer_to};

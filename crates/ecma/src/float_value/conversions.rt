@@ -4,7 +4,7 @@ ghost use Rattle.std.specs.Prelude.{◌≡◌, to_bits};
 
 use super::FloatValue;
 
-// Under the Rust's names, and no From.
+// Under the Rust's names. The Rust has From beside these, which says the same once more.
 impl FloatValue {
     #[tactic(auto, using(crate::proofs::Stored::as_stored))]
     pub fn new(value: f64) -> Self

@@ -20,7 +20,7 @@ impl Making<'_> {
         (row.end() <= self.start as usize).then_some(row)
     }
 
-    // Adds a text of the pool; nothing is done where there is none, or where it does not fit.
+    // Adds a text of the pool; nothing is done where there is none, or where it does not fit. (An Option as `push_part`'s.)
     #[tactic(auto, using(crate::proofs::Pushes::below_inside, crate::proofs::Pushes::part_pushed))]
     fn push_text(&mut self, pool: &mut [u8], rows: &[TextRow], id: TextId) -> Option<()>
         ensures unchanged { OnlyBytes self.old self.new }
