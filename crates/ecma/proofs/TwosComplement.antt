@@ -5,6 +5,7 @@ use Rattle.std.proofs.Common.{◌≡◌, ℕ, suc, ◌-◌, ◌*◌, ◌/◌, �
 use lib.Signed.{mag, mag_shr, shr_z}
 use Rattle.std.specs.Int.{int_shl}
 use Rattle.std.proofs.lemmas.Int.{ints, to_z-of_z}
+use Rattle.std.proofs.lemmas.Nat.{mod_below}
 use Rattle.std.proofs.lemmas.Bool.Decides.{nat_tests}
 use Rattle.ecma.specs.Integer.{bit_string, integer_of, modulo, to_int32, to_uint32}
 use Rattle.ecma.specs.Number.{number_bitwise_and, number_bitwise_or, number_bitwise_xor, number_left_shift, number_signed_right_shift, number_unsigned_right_shift}
@@ -38,9 +39,6 @@ bitwise : (f : ℕ → ℕ → ℕ) (below : (w a b : ℕ) → a < 2 ^ w → b <
 bitwise f below x y a b ax by ha hb =
     rw (← integer_of_lem (f (of_z w32 a) (of_z w32 b)) (below 32 (of_z w32 a) (of_z w32 b) (of_z_lt a ha) (of_z_lt b hb)), written a x ax ha, written b y by hb)
 
-low_word : (n : ℕ) → n % 2 ^ 32 < 2 ^ 32
-low_word n = omega arith
-
 module _ (x y : Float) where
   pub and_is : (a b : ℤ) → a ≡ to_int32 x → b ≡ to_int32 y → mag a < 2 ^ 31 → mag b < 2 ^ 31
       → of_int binary64 (to_z w32 (bit_and (of_z w32 a) (of_z w32 b))) ≡ number_bitwise_and x y
@@ -61,7 +59,7 @@ module _ (x y : Float) where
       → of_int binary64 (int_shl w32 (to_z w32 (of_z w32 a)) (u % 32)) ≡ number_left_shift x y
   unfolding number_left_shift
   left_is a u ax uy h =
-      rw (to_z-of_z w32 a (record { sfits = h }), ← integer_of_lem (of_z w32 a * 2 ^ (u % 32) % 2 ^ 32) (low_word (of_z w32 a * 2 ^ (u % 32))), written a x ax h, uy)
+      rw (to_z-of_z w32 a (record { sfits = h }), ← integer_of_lem (of_z w32 a * 2 ^ (u % 32) % 2 ^ 32) (mod_below (of_z w32 a * 2 ^ (u % 32)) (2 ^ 32) (omega arith)), written a x ax h, uy)
 
   pub right_is : (a : ℤ) (u : ℕ) → a ≡ to_int32 x → u ≡ to_uint32 y → mag a < 2 ^ 31
       → of_int binary64 (to_z w32 (of_z w32 (shr_z (to_z w32 (of_z w32 a)) (2 ^ (u % 32))))) ≡ number_signed_right_shift x y

@@ -7,6 +7,7 @@ use lib.Ieee.Exact.{HasValue, odd_sign}
 use lib.Ieee.Fits.{down_pos}
 use lib.Ieee.Nearest.{div_same}
 use lib.Pow.{mod-mod-pow}
+use Rattle.std.proofs.lemmas.Nat.{mod_below}
 use Rattle.std.proofs.lemmas.Int.{ints}
 use Rattle.std.proofs.lemmas.Nat.{field_of}
 use Rattle.std.proofs.lemmas.Bool.{ne_eqb}
@@ -105,9 +106,6 @@ by_fields b = refl
 field_below : (b : ℕ) → field b ≤ 2047
 field_below b = omega (arith, field_of b 11 52)
 
-digits_lt : (b : ℕ) → b % 2 ^ 52 < 2 ^ 52
-digits_lt b = omega arith
-
 -- what `vanishes` tests
 abbrev outside : ℕ → Bool
 outside x = ltb x 1023 || ltb 1106 x
@@ -118,7 +116,7 @@ vanishing b x e h =
   where
     go : ((ltb x 1023 ≡ true) × (suc x ≤ 1023)) ⊎ ((ltb x 1023 ≡ false) × (1023 < suc x)) → ((ltb 1106 x ≡ true) × (1107 ≤ x)) ⊎ ((ltb 1106 x ≡ false) × (x < 1107))
         → whole_part (of_fields binary64 (leb (2 ^ 63) b) x (b % 2 ^ 52)) % 2 ^ 32 ≡ 0
-    go (inl p) q = ap (λ (n : ℕ). n % 2 ^ 32) (below_one (leb (2 ^ 63) b) x (b % 2 ^ 52) p.1 (digits_lt b))
+    go (inl p) q = ap (λ (n : ℕ). n % 2 ^ 32) (below_one (leb (2 ^ 63) b) x (b % 2 ^ 52) p.1 (mod_below b (2 ^ 52) (omega arith)))
     go (inr p) (inl q) = from_2^84 (leb (2 ^ 63) b) x (b % 2 ^ 52) q.1 (omega (arith, e, field_below b))
     go (inr p) (inr q) = cc
 

@@ -9,7 +9,7 @@ mod text;
 
 use ecma::PrimitiveValue;
 use evaluation::evaluate;
-use script::{LENGTH, SCRIPT};
+use script::SCRIPT;
 use std::io;
 use text::Row;
 
@@ -28,6 +28,7 @@ fn main(rt: HostRuntime) -> io::Result<()> {
         println!(rt; "{row}")?;
     }
     let folded = known.iter().filter(|value| value.is_some()).count();
-    let left = known.len() - folded;
-    println!(rt; "instructions {LENGTH} folded {folded} left {left}")
+    let length = known.len();
+    let left = length - folded;
+    println!(rt; "instructions {length} folded {folded} left {left}")
 }

@@ -6,11 +6,9 @@ use ecma::BinaryOperator::{
 };
 use ecma::UnaryOperator::{Minus, Not};
 
-pub const LENGTH: usize = 33;
-
 // The air supply of a small house: each instruction with what it stands for. Instructions name one another by number, as in
 // any script.
-pub const SCRIPT: [(&str, Operation); LENGTH] = [
+pub const SCRIPT: &[(&str, Operation)] = &[
     ("floor length, m", Literal(12.5)),
     ("floor width, m", Literal(8.4)),
     ("floor area, m2", Binary(Multiplication, 0, 1)),

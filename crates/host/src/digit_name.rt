@@ -6,7 +6,7 @@ ghost use Rattle.text.specs.Classes.{is_digit, is_name_start};
 
 use text::ByteClass;
 
-const RESERVED: [&[u8]; 38] = [
+const RESERVED: &[&[u8]] = &[
     b"await",
     b"break",
     b"case",
