@@ -7,18 +7,19 @@ mod operation;
 mod script;
 mod text;
 
+use arrayvec::ArrayVec;
 use ecma::PrimitiveValue;
 use evaluation::evaluate;
-use script::SCRIPT;
+use script::{LENGTH, SCRIPT};
 use std::io;
 use text::Row;
 
 fn main(rt: HostRuntime) -> io::Result<()> {
-    let mut known: Vec<Option<PrimitiveValue<'static>>> = Vec::new(rt.alloc());
+    let mut known: ArrayVec<Option<PrimitiveValue<'static>>, LENGTH> = ArrayVec::new();
     // no chain: each instruction reads what the ones before it became
     for (number, (name, operation)) in SCRIPT.iter().enumerate() {
         let value = evaluate(*operation, &known);
-        known.push(value)?;
+        known.push(value);
         let row = Row {
             number,
             name,

@@ -6,9 +6,12 @@ use ecma::BinaryOperator::{
 };
 use ecma::UnaryOperator::{Minus, Not};
 
+// How many instructions the script has.
+pub const LENGTH: usize = 33;
+
 // The air supply of a small house: each instruction with what it stands for. Instructions name one another by number, as in
 // any script.
-pub const SCRIPT: &[(&str, Operation)] = &[
+pub const SCRIPT: &[(&str, Operation); LENGTH] = &[
     ("floor length, m", Literal(12.5)),
     ("floor width, m", Literal(8.4)),
     ("floor area, m2", Binary(Multiplication, 0, 1)),
