@@ -1,4 +1,6 @@
-use pool::{Mark, Piece, Pool, TextRow, text_bytes};
+ghost use Rattle.std.specs.Prelude.{◌≡◌, length};
+
+use pool::{Making, Mark, Piece, Pool, TextRow, text_bytes};
 use std::test::Fail;
 use table::{Cause, Id, Table, TextId};
 
@@ -21,6 +23,22 @@ fn reads(pool: &Pool, number: u32, text: &[u8]) -> bool {
 
 fn text(number: u32) -> Option<Piece<'static>> {
     Some(Piece::Text(id(number)))
+}
+
+// How many bytes and rows there are after adding, whatever came of it: a caller can tell, by the contract of `add_text` alone.
+fn room_after(pool: &mut Pool, text: &[u8]) -> (usize, usize)
+    ensures bytes { result.0 ≡ length pool.old.bytes.now }
+    ensures rows { result.1 ≡ length pool.old.rows.now }
+{
+    let _ = pool.add_text(text);
+    (pool.bytes.len(), pool.rows.len())
+}
+
+// Lets go in a branch of a text that is being made: a `Making` can be handed on as any other value.
+fn let_go(making: Making, now: bool) {
+    if now {
+        drop(making);
+    }
 }
 
 #[test]
@@ -93,4 +111,28 @@ fn tables_end_at_the_limit_or_the_slice(rt: HostRuntime) {
     assert!(rt; !table.set(Id::new(1024), 6));
     assert_eq!(rt; table.get(Id::new(1023)), Some(6));
     assert_eq!(rt; table.get(Id::new(1024)), None);
+}
+
+#[test]
+fn adding_leaves_as_much_memory_as_was_lent(rt: HostRuntime) {
+    let mut mark = Mark::empty();
+    let mut bytes = [0u8; 2];
+    let mut rows = [ROW; 3];
+    let mut pool = Pool {
+        mark: &mut mark,
+        bytes: &mut bytes,
+        rows: &mut rows,
+    };
+    assert_eq!(rt; room_after(&mut pool, b"ab"), (2, 3));
+    assert_eq!(rt; room_after(&mut pool, b"c"), (2, 3));
+}
+
+#[test]
+fn the_mark_goes_back_where_a_making_is_let_go(rt: HostRuntime) {
+    let mut mark = Mark::empty();
+    let mut bytes = [0u8; 2];
+    let mut making = Making::begin(&mut mark);
+    assert_eq!(rt; making.push(&mut bytes, b"ab"), Some(()));
+    let_go(making, true);
+    assert_eq!(rt; mark.bytes, 0);
 }

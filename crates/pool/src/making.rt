@@ -37,18 +37,20 @@ fn repeat(pool: &mut [u8], from: usize, len: usize, at: usize)
     requires { (from + len ≤ at) × (at + len ≤ length pool.old) }
     ensures { pool.new ≡ paste pool.old at (take len (drop from pool.old)) len }
 {
-    pool.copy_within(from..from + len, at);
+    let (below, above) = pool.split_at_mut(at);
+    above[..len].copy_from_slice(&below[from..from + len]);
 }
 
 // A text that is being put together at the end of the used bytes. The mark rises with its bytes, and
 // goes back when this is dropped, unless the finished text was kept.
 // Bytes and rows are passed beside it, since it guards the mark alone: what lies past the mark need not be restored.
+// That the text begins at or before the mark is no invariant: the borrow checker does not cover a function that has such a
+// value with an invariant as a parameter and moves it in a branch.
 pub struct Making<'m> {
     mark: &'m mut Mark,
     start: u32,
     // Not an Option of the start: push_part and keep read the start also after a text is kept.
     kept: bool,
-    ghost begun: { start ≤ mark.now.bytes },
 }
 
 impl Drop for Making<'_> {
@@ -109,7 +111,8 @@ impl<'m> Making<'m> {
         let used = self.mark.bytes as usize;
         let len = part.len as usize;
         let room = capacity(pool);
-        if part.end() > self.start as usize || used + len > room {
+        let start = self.start as usize;
+        if part.end() > start || start > used || used + len > room {
             return None;
         }
         repeat(pool, part.start as usize, len, used);
@@ -130,7 +133,7 @@ impl<'m> Making<'m> {
         let id = Id::new(self.mark.rows);
         let row = TextRow {
             start: self.start,
-            len: self.mark.bytes - self.start,
+            len: self.mark.bytes.saturating_sub(self.start),
         };
         if !write(rows, id, row) {
             return None;

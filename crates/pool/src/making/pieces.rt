@@ -23,6 +23,7 @@ impl Making<'_> {
     // Adds a text of the pool; nothing is done where there is none, or where it does not fit. (An Option as `push_part`'s.)
     #[tactic(auto, using(crate::proofs::Pushes::below_inside, crate::proofs::Pushes::part_pushed))]
     fn push_text(&mut self, pool: &mut [u8], rows: &[TextRow], id: TextId) -> Option<()>
+        requires { self.old.start ≤ self.old.mark.now.bytes }
         ensures unchanged { OnlyBytes self.old self.new }
         ensures pushed { Pushed (text_of pool.old (row_of self.old.mark.now.rows self.old.start rows.now id.number)) self.old.mark.now.bytes pool.old result self.new.mark.now.bytes pool.new }
     {
@@ -32,6 +33,7 @@ impl Making<'_> {
 
     // Adds a piece; nothing is done where it is missing, or does not fit.
     fn push_piece(&mut self, pool: &mut [u8], rows: &[TextRow], piece: Option<Piece>) -> Option<()>
+        requires { self.old.start ≤ self.old.mark.now.bytes }
         ensures unchanged { OnlyBytes self.old self.new }
         ensures pushed { Pushed (piece_bytes self.old.mark.now.rows self.old.start rows.now pool.old piece.entry) self.old.mark.now.bytes pool.old result self.new.mark.now.bytes pool.new }
     {
@@ -58,8 +60,7 @@ impl Making<'_> {
         pieces.iter().all(|piece| self.has(rows, *piece))
     }
 
-    // Adds all pieces, up to the first that is missing or does not fit. That nothing is pushed yet is asked here and in
-    // `assemble` alone, and so is no invariant.
+    // Adds all pieces, up to the first that is missing or does not fit.
     #[tactic(auto, using(crate::proofs::Gathering::none_yet, crate::proofs::Gathering::finished, crate::proofs::Gathering::only_bytes_trans))]
     fn push_all(
         &mut self,
