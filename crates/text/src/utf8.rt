@@ -1,5 +1,7 @@
 // Which bytes are UTF-8.
-ghost use Rattle.std.specs.Prelude.{◌≡◌, IsUtf8, Decides};
+ghost use Rattle.std.specs.Prelude.{◌≡◌, ◌-◌, IfSome, IsUtf8, Decides, Some, length, slice_index};
+ghost use Rattle.text.specs.ClassTests.{sequence_length};
+ghost use Rattle.text.specs.Classes.{class_of};
 ghost use Rattle.std.specs.Option.{option_map};
 ghost use Rattle.text.specs.Sequences.{after_sequence, is_continuation, is_second};
 
@@ -23,9 +25,10 @@ fn is_second(lead: u8, byte: u8) -> bool
     }
 }
 
-// What stands after the sequence that the bytes begin with.
+// What stands after the sequence that the bytes begin with, which has the length that its class says.
 fn after_sequence(bytes: &[u8]) -> Option<&[u8]>
-    ensures { option_map (λ rest. rest.now) result ≡ after_sequence bytes.now }
+    ensures value { option_map (λ rest. rest.now) result ≡ after_sequence bytes.now }
+    ensures taken { IfSome result (λ rest. sequence_length (class_of (slice_index bytes.now 0)) ≡ Some (length bytes.now - length rest.now)) }
 {
     let (lead, rest) = bytes.split_first()?;
     match (ByteClass::from(*lead), rest) {
