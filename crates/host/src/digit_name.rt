@@ -1,6 +1,7 @@
 // Names: an IdentifierName in ASCII that is no reserved word.
 ghost use Rattle.host.specs.DigitHost.{is_identifier_name, is_name, is_reserved};
-ghost use Rattle.std.specs.List.{list_all};
+ghost use Rattle.std.specs.List.{list_all, list_any};
+ghost use Rattle.std.specs.Str.{bytes_eq};
 ghost use Rattle.std.specs.Prelude.{◌≡◌, ◌||◌};
 ghost use Rattle.text.specs.Classes.{is_digit, is_name_start};
 
@@ -81,5 +82,12 @@ fn is_name_part(byte: u8) -> bool
 fn is_reserved(text: &[u8]) -> bool
     ensures { result ≡ is_reserved text.now }
 {
-    RESERVED.contains(&text)
+    is_among(text, RESERVED)
+}
+
+// By `any`, since `contains` compares the words in more steps.
+fn is_among(text: &[u8], words: &[&[u8]]) -> bool
+    ensures { result ≡ list_any (λ w. bytes_eq w.now text.now) words.now }
+{
+    words.iter().any(|word| *word == text)
 }

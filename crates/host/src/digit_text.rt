@@ -5,7 +5,7 @@ ghost use Rattle.std.specs.Fmt.{signed_decimal};
 ghost use Rattle.std.specs.Option.{option_map};
 ghost use Rattle.std.specs.Float.{float_is_finite};
 
-use crate::number_text::NumberText;
+use crate::number_text::{NumberText, owned};
 use itoa::Buffer;
 use std::num::saturating_f64_to_u64;
 
@@ -16,15 +16,23 @@ const MAX_SAFE_INTEGER: u64 = 9_007_199_254_740_991;
 pub fn number_text(number: f64) -> Option<NumberText>
     ensures { option_map (λ t. t.bytes) result ≡ number_text number }
 {
-    let mut buffer = Buffer::new();
-    let text = if number.is_nan() {
-        "NaN"
-    } else if number.is_infinite() {
-        infinity_text(number.is_sign_negative())
-    } else {
-        buffer.format(whole_number(number)?)
-    };
-    NumberText::from(text).ok()
+    if number.is_nan() {
+        return Some(owned("NaN"));
+    }
+    if number.is_infinite() {
+        return Some(owned(infinity_text(number.is_sign_negative())));
+    }
+    finite_text(number)
+}
+
+// Apart, so that the others do not pay for its buffer.
+#[inline(never)]
+fn finite_text(number: f64) -> Option<NumberText>
+    requires { float_is_finite number ≡ true }
+    ensures { option_map (λ t. t.bytes) result ≡ number_text number }
+{
+    let whole = whole_number(number)?;
+    Some(owned(Buffer::new().format(whole)))
 }
 
 fn infinity_text(minus: bool) -> &'static str

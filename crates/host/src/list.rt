@@ -1,5 +1,5 @@
 // A host that answers from lists.
-ghost use Rattle.std.specs.Prelude.{◌≡◌, ◌&&◌, Some};
+ghost use Rattle.std.specs.Prelude.{◌≡◌, ◌&&◌};
 ghost use Rattle.host.specs.Answers.{Bounded};
 ghost use Rattle.ecma.specs.Number.{number_same_value};
 ghost use Rattle.host.specs.ListHost.{can_be_number_text, listed_name, listed_number, listed_text};
@@ -8,7 +8,7 @@ ghost use Rattle.std.specs.Option.{option_map};
 ghost use Rattle.std.specs.Str.{is_utf8};
 
 use crate::host::Host;
-use crate::number_text::{LONGEST, NumberText};
+use crate::number_text::{LONGEST, NumberText, owned};
 use ecma::same_value;
 use text::is_utf8;
 
@@ -53,7 +53,7 @@ impl Host for ListHost<'_> {
     #[tactic(auto, using(crate::specs::ListedTexts::listed_bounded))]
     fn number_text(&self, number: f64) -> Option<NumberText> {
         let text = find_text(self.texts, number)?;
-        owned(text)
+        Some(as_text(text))
     }
 
     fn text_number(&self, text: &[u8]) -> Option<f64> {
@@ -65,13 +65,12 @@ impl Host for ListHost<'_> {
     }
 }
 
-// Bytes that can be the text of a number, as such a text.
-fn owned(bytes: &[u8]) -> Option<NumberText>
+// Bytes that can be the text of a number, as such a text. That they are UTF-8 was found as their entry was.
+fn as_text(bytes: &[u8]) -> NumberText
     requires { Bounded bytes.now }
-    ensures { option_map (λ t. t.bytes) result ≡ Some bytes.now }
+    ensures { result.bytes ≡ bytes.now }
 {
-    let text = std::str::from_utf8(bytes).ok()?;
-    NumberText::from(text).ok()
+    owned(unsafe { std::str::from_utf8_unchecked(bytes) })
 }
 
 fn find_text<'a>(entries: &[TextEntry<'a>], number: f64) -> Option<&'a [u8]>
