@@ -65,7 +65,7 @@ module _ (x y : Float) (fx : T (fits binary64 x)) (fy : T (fits binary64 y)) whe
   from_bits : to_bits binary64 x ≡ to_bits binary64 y → x ≡ y
   from_bits h = sym (of_bits-to_bits binary64 x fx) ∙ ap (of_bits binary64) h ∙ of_bits-to_bits binary64 y fy
 
-  same_decides : Decides (number_same_value x y) (x ≡ y)
+  pub same_decides : Decides (number_same_value x y) (x ≡ y)
   same_decides = (λ h. from_bits (same_bits x y h), λ e. subst (λ (z : Float). number_same_value x z ≡ true) e (same_self x))
 
 -- the stored bits are those that the Number is written with

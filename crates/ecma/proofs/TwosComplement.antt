@@ -10,12 +10,12 @@ use Rattle.std.proofs.lemmas.Bool.Decides.{nat_tests}
 use Rattle.ecma.specs.Integer.{bit_string, integer_of, modulo, to_int32, to_uint32}
 use Rattle.ecma.specs.Number.{number_bitwise_and, number_bitwise_or, number_bitwise_xor, number_left_shift, number_signed_right_shift, number_unsigned_right_shift}
 
-bits_of : (z : ℤ) → SFits w32 z → bit_string z ≡ of_z w32 z
+pub bits_of : (z : ℤ) → SFits w32 z → bit_string z ≡ of_z w32 z
 unfolding bit_string modulo
 bits_of (pos n) h = let l : n < 2 ^ 32 = omega (arith, h.sfits) in mod-eq_of_lt l
 bits_of (negsuc n) h = let l : n < 2 ^ 32 = omega (arith, h.sfits) in ap (λ (k : ℕ). 2 ^ 32 - suc k) (mod-eq_of_lt l)
 
-integer_of_lem : (n : ℕ) → n < 2 ^ 32 → integer_of n ≡ to_z w32 n
+pub integer_of_lem : (n : ℕ) → n < 2 ^ 32 → integer_of n ≡ to_z w32 n
 unfolding integer_of
 integer_of_lem n h = grind (arith, nat_tests, ints)
 
@@ -25,7 +25,7 @@ pub int32_is : (x : Float) (z : ℤ) → z ≡ to_z w32 (to_uint32 x) → to_uin
 unfolding to_int32 to_uint32
 int32_is x z e l h = to_z-of_z w32 z (record { sfits = h }) ∙ e ∙ sym (integer_of_lem (to_uint32 x) l)
 
-of_z_lt : (z : ℤ) → mag z < 2 ^ 31 → of_z w32 z < 2 ^ 32
+pub of_z_lt : (z : ℤ) → mag z < 2 ^ 31 → of_z w32 z < 2 ^ 32
 of_z_lt (pos n) h = omega arith
 of_z_lt (negsuc n) h = omega arith
 
@@ -34,7 +34,7 @@ of_z_lt (negsuc n) h = omega arith
 written : (a : ℤ) (x : Float) → a ≡ to_int32 x → mag a < 2 ^ 31 → of_z w32 a ≡ bit_string (to_int32 x)
 written a x e h = sym (bits_of a (record { sfits = h })) ∙ ap bit_string e
 
-bitwise : (f : ℕ → ℕ → ℕ) (below : (w a b : ℕ) → a < 2 ^ w → b < 2 ^ w → f a b < 2 ^ w) (x y : Float) (a b : ℤ) → a ≡ to_int32 x → b ≡ to_int32 y → mag a < 2 ^ 31 → mag b < 2 ^ 31
+pub bitwise : (f : ℕ → ℕ → ℕ) (below : (w a b : ℕ) → a < 2 ^ w → b < 2 ^ w → f a b < 2 ^ w) (x y : Float) (a b : ℤ) → a ≡ to_int32 x → b ≡ to_int32 y → mag a < 2 ^ 31 → mag b < 2 ^ 31
     → to_z w32 (f (of_z w32 a) (of_z w32 b)) ≡ integer_of (f (bit_string (to_int32 x)) (bit_string (to_int32 y)))
 bitwise f below x y a b ax by ha hb =
     rw (← integer_of_lem (f (of_z w32 a) (of_z w32 b)) (below 32 (of_z w32 a) (of_z w32 b) (of_z_lt a ha) (of_z_lt b hb)), written a x ax ha, written b y by hb)

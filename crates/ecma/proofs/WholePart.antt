@@ -15,7 +15,7 @@ use Rattle.std.proofs.lemmas.Bool.Decides.{eqb_tells, leb_tells, nat_tests}
 use Rattle.ecma.proofs.Shifted.{down_shift, up_shift, shifted_out, no_low_digits}
 use Rattle.ecma.specs.Integer.{to_uint32, modulo, truncate}
 
-abbrev whole_part : Float → ℕ
+abbrev pub whole_part : Float → ℕ
 whole_part v = nat_abs (truncate v)
 
 of_finite : (s : Bool) (m : ℕ) (e : ℤ) → whole_part (fin s m e) ≡ m * up e / down e
@@ -43,7 +43,7 @@ value_signed s (inf t) a c h = absurd h
 value_signed s (fin true m e) a c h = subst (λ (b : Bool). Signed b (fin true m e)) h.0 (ap (λ (n : ℕ). neg_ℤ (pos n)) (sym (of_finite true m e)))
 value_signed s (fin false m e) a c h = subst (λ (b : Bool). Signed b (fin false m e)) h.0 refl
 
-fields_signed : (s : Bool) (x t : ℕ) → Signed s (of_fields binary64 s x t)
+pub fields_signed : (s : Bool) (x t : ℕ) → Signed s (of_fields binary64 s x t)
 unfolding of_fields truncate
 fields_signed s zero t = value_signed s (odd 53 s t 0 1074) (t * 2 ^ 0) (2 ^ 1074) (odd_sign 53 s t 0 1074)
 fields_signed s (suc x) t = go (eqb (suc x) 2047) (eqb t 0)
@@ -60,18 +60,18 @@ unfolding of_fields
 normal s x t h =
     rw (ne_eqb (suc x) 2047 h) (of_fraction (odd 53 s (2 ^ 52 + t) x 1074) ((2 ^ 52 + t) * 2 ^ x) 1074 (odd_val 53 s (2 ^ 52 + t) x 1074))
 
-below_one : (s : Bool) (x t : ℕ) → x < 1023 → t < 2 ^ 52 → whole_part (of_fields binary64 s x t) ≡ 0
+pub below_one : (s : Bool) (x t : ℕ) → x < 1023 → t < 2 ^ 52 → whole_part (of_fields binary64 s x t) ≡ 0
 unfolding of_fields
 below_one s zero t h g = of_fraction (odd 53 s t 0 1074) (t * 2 ^ 0) 1074 (odd_val 53 s t 0 1074) ∙ shifted_out t 52 0 1074 g (omega arith)
 below_one s (suc x) t h g = normal s x t (λ (e : suc x ≡ 2047). omega arith) ∙ shifted_out (2 ^ 52 + t) 53 x 1074 (omega arith) (omega arith)
 
-from_one : (s : Bool) (x t : ℕ) → 1023 ≤ x → x ≤ 1075 → whole_part (of_fields binary64 s x t) ≡ (2 ^ 52 + t) / 2 ^ (1075 - x)
+pub from_one : (s : Bool) (x t : ℕ) → 1023 ≤ x → x ≤ 1075 → whole_part (of_fields binary64 s x t) ≡ (2 ^ 52 + t) / 2 ^ (1075 - x)
 from_one s zero t h g = absurd (not-suc-le-zero h)
 from_one s (suc x) t h g =
     let e : 1074 - x ≡ 1075 - suc x = omega arith in
     normal s x t (λ (e : suc x ≡ 2047). omega arith) ∙ down_shift (2 ^ 52 + t) x 1074 (omega arith) ∙ ap (λ (k : ℕ). (2 ^ 52 + t) / 2 ^ k) e
 
-from_2^53 : (s : Bool) (x t : ℕ) → 1075 ≤ x → x < 2047 → whole_part (of_fields binary64 s x t) ≡ (2 ^ 52 + t) * 2 ^ (x - 1075)
+pub from_2^53 : (s : Bool) (x t : ℕ) → 1075 ≤ x → x < 2047 → whole_part (of_fields binary64 s x t) ≡ (2 ^ 52 + t) * 2 ^ (x - 1075)
 from_2^53 s zero t h g = absurd (not-suc-le-zero h)
 from_2^53 s (suc x) t h g =
     let e : x - 1074 ≡ suc x - 1075 = omega arith in
@@ -85,7 +85,7 @@ not_finite s t = go (eqb t 0)
     go true = refl
     go false = refl
 
-from_2^84 : (s : Bool) (x t : ℕ) → 1106 < x → x ≤ 2047 → whole_part (of_fields binary64 s x t) % 2 ^ 32 ≡ 0
+pub from_2^84 : (s : Bool) (x t : ℕ) → 1106 < x → x ≤ 2047 → whole_part (of_fields binary64 s x t) % 2 ^ 32 ≡ 0
 from_2^84 s x t h g = go (eqb_tells x 2047)
   where
     go : ((eqb x 2047 ≡ true) × (x ≡ 2047)) ⊎ ((eqb x 2047 ≡ false) × (x ≡ 2047 → ⊥)) → whole_part (of_fields binary64 s x t) % 2 ^ 32 ≡ 0

@@ -34,11 +34,11 @@ free_first : (room : ℕ) (s : Script) (c : Cause) (e ps : List Part) (r : Refus
 free_first room s c e [] r f g = g
 free_first room s c e (p ∷ ps) r f g = grind (arith, free_first room s c (p ∷ e) ps r)
 
-cause_one : (room : ℕ) (s : Script) (cs : List Cause) (r q : Refusal) → FirstCause room s cs r → FirstCause room s cs q → r ≡ q
+pub cause_one : (room : ℕ) (s : Script) (cs : List Cause) (r q : Refusal) → FirstCause room s cs r → FirstCause room s cs q → r ≡ q
 cause_one room s [] r q f g = absurd f
 cause_one room s (c ∷ cs) r q f g = grind (arith, first_one room s c [] (parts s) r q, free_first room s c [] (parts s), cause_one room s cs r q)
 
-free_cause : (room : ℕ) (s : Script) (cs : List Cause) (r : Refusal) → AllByRecursion (λ c. Free room s c [] (parts s)) cs → FirstCause room s cs r → ⊥
+pub free_cause : (room : ℕ) (s : Script) (cs : List Cause) (r : Refusal) → AllByRecursion (λ c. Free room s c [] (parts s)) cs → FirstCause room s cs r → ⊥
 free_cause room s [] r a f = f
 free_cause room s (c ∷ cs) r a f = grind (arith, free_first room s c [] (parts s) r, free_cause room s cs r)
 

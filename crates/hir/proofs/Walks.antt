@@ -206,6 +206,9 @@ module _ (n : ℕ) (g : Graph) (inside : (a b : ℕ) → Mem b (g a) → b < n) 
     every_done : (c : ℕ) → Entered (walked n g) c → Done (walked n g) c
     every_done c e = grind (arith, all_walked.since c e, set_only (replicate n false) 0 c, blank_reads n c false, all_walked.done)
 
+    pub entered_reached : (b : ℕ) → Entered (walked n g) b → Reached g b
+    entered_reached b e = all_walked.right.reached b e
+
     pub reached_entered : (b : ℕ) → Reached g b → Entered (walked n g) b
     reached_entered b (h, entry) = all_walked.grown.entered 0 (get_or-set_same (replicate n false) 0 true false (rw (length-replicate n false) some))
     reached_entered b (h, along {a = a} {b = c} {h = k} w m) = (every_done a (reached_entered a (k, w)) b m).1
@@ -215,3 +218,6 @@ module _ (n : ℕ) (g : Graph) (inside : (a b : ℕ) → Mem b (g a) → b < n) 
 
     pub precedes_found : (a b : ℕ) → Precedes g a b → Mem a (found (walked n g) b)
     precedes_found a b p = (every_done a (reached_entered a p.0) b p.1).0
+
+    pub walked_long : (length (walked n g).entered ≡ n) × (length (walked n g).predecessors ≡ n)
+    walked_long = (all_walked.right.many, all_walked.right.lists)

@@ -12,7 +12,7 @@ use Rattle.text.specs.Classes.{is_digit}
 numerals : IsNumeralModel (λ ds. list_all is_digit ds ≡ true) (digits_value 10)
 numerals = numerals_by_value _ (search rules)
 
-digit_adds : (b : ℕ) → is_digit b ≡ true → digit_value b ≡ b - 48
+pub digit_adds : (b : ℕ) → is_digit b ≡ true → digit_value b ≡ b - 48
 digit_adds b h = grind (arith, nat_tests)
 
 -- before the last of 15 digits, and with it

@@ -5,3 +5,4 @@ mod FloatLiterals
 mod NumberKinds
 mod Signs
 mod WholeNumber
+mod WholeText

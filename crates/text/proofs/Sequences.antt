@@ -93,7 +93,7 @@ by_class Never a rest h =
     no_char (a ∷ rest) 0
     (λ r. ⊎_elim (λ low. omega (arith, r.second (omega arith))) (λ high. omega (arith, r.fourth (omega arith))) off.1)
 
-begins : (a : ℕ) (bs : List ℕ) → Begins (a ∷ bs) (after_sequence (a ∷ bs))
+pub begins : (a : ℕ) (bs : List ℕ) → Begins (a ∷ bs) (after_sequence (a ∷ bs))
 begins a bs = by_class (class_of a) a bs refl
 
 -- bytes that begin with no sequence are no text
