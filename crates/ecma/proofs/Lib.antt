@@ -1,3 +1,4 @@
+pub mod Clash
 pub mod ExactRemainder
 pub mod LeftOver
 pub mod LooseEquality

@@ -68,6 +68,10 @@ module _ (x y : Float) (fx : T (fits binary64 x)) (fy : T (fits binary64 y)) whe
   pub same_decides : Decides (number_same_value x y) (x ≡ y)
   same_decides = (λ h. from_bits (same_bits x y h), λ e. subst (λ (z : Float). number_same_value x z ≡ true) e (same_self x))
 
+  -- what `==` on the stored bits a and b says
+  pub bits_decide : (a b : ℕ) (r : Bool) → a ≡ to_bits binary64 x → b ≡ to_bits binary64 y → Decides r (a ≡ b) → Decides r (x ≡ y)
+  bits_decide a b r ea eb d = Decides-like r from_bits (ap (to_bits binary64)) (rw (ea, eb) at d)
+
 -- the stored bits are those that the Number is written with
 stored : (v : FloatValue) → v.bits ≡ to_bits binary64 (number_of v)
 stored v = go (is_nan (number_of v)) refl
@@ -76,10 +80,10 @@ stored v = go (is_nan (number_of v)) refl
     go true e = v.canonical e ∙ sym (nan_only (number_of v) e)
     go false e = sym (to_bits-of_bits binary64 v.bits v.range (subst (λ (n : Bool). T (not n)) (sym e) tt))
 
-pub bits_decide : (v w : FloatValue) → Decides (v.bits == w.bits) (number_of v ≡ number_of w)
-bits_decide v w = Decides-like (v.bits == w.bits) (ap (of_bits binary64)) (λ e. stored v ∙ ap (to_bits binary64) e ∙ sym (stored w)) (Decides-eqb v.bits w.bits)
+pub values_decide : (v w : FloatValue) → Decides (v.bits == w.bits) (number_of v ≡ number_of w)
+values_decide v w = bits_decide _ _ (of_bits-fits binary64 v.bits) (of_bits-fits binary64 w.bits) _ _ _ (stored v) (stored w) (Decides-eqb v.bits w.bits)
 
 pub bits_same : (v w : FloatValue) → (v.bits == w.bits) ≡ number_same_value (number_of v) (number_of w)
 bits_same v w =
-    same_from_decides (v.bits == w.bits) (number_same_value (number_of v) (number_of w)) (bits_decide v w)
+    same_from_decides (v.bits == w.bits) (number_same_value (number_of v) (number_of w)) (values_decide v w)
     (same_decides (number_of v) (number_of w) (of_bits-fits binary64 v.bits) (of_bits-fits binary64 w.bits))

@@ -1,6 +1,6 @@
 -- The whole part of a stored Number, by the fields of its bits: the sign s, the exponent's field x and the digits t below the leading one.
 use Rattle.std.proofs.Common.{◌≡◌, ℕ, zero, suc, ◌+◌, ◌-◌, ◌*◌, ◌/◌, ◌%◌, ◌^◌, ◌<◌, ◌≤◌, Bool, true, false, cond, ◌||◌, eqb, ltb, leb, ◌⊎◌, ℤ, pos, neg_ℤ, nat_abs, sym, refl, ap, ◌∙◌, subst, inl, inr, not-suc-le-zero, lt_of_le_of_lt, le_of_lt, arith, lit<, pow_pos}
-use lib.Bits.{and_mask, bit_and}
+use lib.Bits.{and_mask, bit_and, bit_or, or_shifted_r}
 use lib.Ieee.{Float, nan, inf, fin, up, down, odd, binary64, of_bits, of_fields}
 use lib.Ieee.Digits.{Equals, odd_val}
 use lib.Ieee.Exact.{HasValue, odd_sign}
@@ -145,6 +145,13 @@ shifted b x d w e g h k = and_mask w 32 ∙ ap (λ (n : ℕ). n % 2 ^ 32) k ∙ 
     go (inr p) =
         rw (p.0, from_2^53 s x t (le_of_lt p.1) (lt_of_le_of_lt to (lit< tt)))
         (mod-mod-pow (d * 2 ^ (x - 1075)) 32 32 ∙ ap (λ (n : ℕ). n * 2 ^ (x - 1075) % 2 ^ 32) g)
+
+-- the fields as masks cut them out
+pub field_is : (b : ℕ) → bit_and (b / 2 ^ 52) 2047 ≡ field b
+field_is b = and_mask (b / 2 ^ 52) 11 ∙ sym (field_of b 11 52)
+
+pub digits_are : (b : ℕ) → bit_or (bit_and b 4503599627370495) 4503599627370496 ≡ 2 ^ 52 + b % 2 ^ 52
+digits_are b = rw (and_mask b 52) (or_shifted_r 1 52 (b % 2 ^ 52) (mod_below b (2 ^ 52) (omega arith)))
 
 -- ---- to_uint32 from the low word of the whole part, and its complement where the sign's bit is set
 

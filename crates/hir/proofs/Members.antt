@@ -1,7 +1,7 @@
 -- Members of lists: as facts, as tests, and counted.
 use Rattle.std.proofs.Common.{◌≡◌, ℕ, ◌+◌, ◌≤◌, Bool, true, false, cond, eqb, ◌⊎◌, List, [], ◌∷◌, ◌++◌, map, refl, ap, inl, inr, arith}
 use Rattle.hir.specs.Lists.{Mem, all, count, distinct, flat_map, has, keep}
-use Rattle.std.proofs.lemmas.Bool.{eqb-true, false≢true, or_cases, or_parts, true_from_ne_false}
+use Rattle.std.proofs.lemmas.Bool.{cases_Bool, eqb-true, false≢true, or_cases, or_parts}
 use Rattle.std.proofs.lemmas.Bool.Decides.{nat_tests}
 use Rattle.std.proofs.lemmas.Grind.{common_steps}
 use Rattle.std.proofs.lemmas.List.Recursion.{is_sum_by}
@@ -20,8 +20,12 @@ pub lacks : (x : ℕ) (xs : List ℕ) → has x xs ≡ false → Mem x xs → �
 lacks x [] e m = m
 lacks x (y ∷ ys) e m = grind (arith, nat_tests, lacks x ys)
 
+-- a number stands in a list, or does not
+pub member : (x : ℕ) (xs : List ℕ) → Mem x xs ⊎ (Mem x xs → ⊥)
+member x xs = elim (cases_Bool (has x xs)) [ inl e ↦ inl (has-mem x xs e) | inr e ↦ inr (lacks x xs e) ]
+
 pub not_missing : (x : ℕ) (xs : List ℕ) → ((Mem x xs → ⊥) → ⊥) → Mem x xs
-not_missing x xs f = has-mem x xs (true_from_ne_false _ (λ e. f (lacks x xs e)))
+not_missing x xs f = elim (member x xs) [ inl m ↦ m | inr n ↦ absurd (f n) ]
 
 pub all_mem : {A : Type 0} (p : A → Bool) (x : A) (xs : List A) → all p xs ≡ true → Mem x xs → p x ≡ true
 all_mem p x [] e m = absurd m

@@ -1,5 +1,6 @@
 mod AsciiTexts
 mod ByClass
+mod DecimalEnd
 mod DigitValue
 mod FloatLiterals
 mod NumberKinds

@@ -21,6 +21,9 @@ use Rattle.std.proofs.lemmas.Bool.{cases_cond, cond_both, ltb-true}
 abbrev Unknown : Knowledge → List ℕ → Type 0
 Unknown κ xs = (x : ℕ) → Mem x xs → κ x ≡ None
 
+pub none_some : {A B : Type 0} (o : Option A) (k : A) → o ≡ None → o ≡ Some k → B
+none_some o k e f = cc
+
 -- a flow whose trace is true, and has xs if it goes on
 abbrev Fine : World → Knowledge → List ℕ → Flow → Type 0
 Fine w κ xs (goes_on s) = True w κ s.assignments × Has s.assignments xs

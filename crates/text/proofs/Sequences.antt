@@ -13,10 +13,10 @@ use Rattle.text.specs.declared.class.ByteClass.{ByteClass}
 use Rattle.text.specs.declared.class.ByteClass.TheVariants.{Digit, NameStart, Ascii, Continuation, Lead2, Lead3, Lead4, Never}
 use Rattle.text.specs.Sequences.{after_lead, after_sequence, is_continuation, is_second}
 
--- a text that the rest follows, or no character
-abbrev Begins : List ℕ → Option (List ℕ) → Type 0
+-- a text of one byte at least that the rest follows, or no character
+abbrev pub Begins : List ℕ → Option (List ℕ) → Type 0
 Begins bs None = StartsWithNoChar bs
-Begins bs (Some rest) = (text : List ℕ) × IsUtf8 text × (bs ≡ text ++ rest)
+Begins bs (Some rest) = (text : List ℕ) × (0 < length text) × IsUtf8 text × (bs ≡ text ++ rest)
 
 continues : (b : ℕ) → Decides (is_continuation b) (Follows b)
 continues b = (λ e. grind (arith, nat_tests), λ f. grind (arith, nat_tests))
@@ -47,14 +47,14 @@ by_test bs rest true says makes had = makes (says.0 refl)
 by_test bs rest false says makes had = no_char bs 0 (λ r. false≢true (says.1 (had r)))
 
 one : (a : ℕ) (rest : List ℕ) → a < 128 → Begins (a ∷ rest) (Some rest)
-one a rest low = (a ∷ [], of_one (a ∷ rest) 0 (omega arith) low, refl)
+one a rest low = (a ∷ [], omega arith, of_one (a ∷ rest) 0 (omega arith) low, refl)
 
 two : (a : ℕ) (rest : List ℕ) → (194 ≤ a) × (a < 224) → Begins (a ∷ rest) (after_lead Lead2 a rest)
 two a [] lead = no_char (a ∷ []) 0 (λ r. omega (arith, r.second (omega arith)))
 two a (b ∷ rest) lead =
     let bs = a ∷ b ∷ rest in
     by_test bs rest (is_second a b) (in_two a b lead)
-    (λ f. (a ∷ b ∷ [], of_two bs 0 (omega arith) lead f, refl))
+    (λ f. (a ∷ b ∷ [], omega arith, of_two bs 0 (omega arith) lead f, refl))
     (λ r. (r.second (omega arith)).2)
 
 three : (a : ℕ) (rest : List ℕ) → (224 ≤ a) × (a < 240) → Begins (a ∷ rest) (after_lead Lead3 a rest)
@@ -64,7 +64,7 @@ three a (b ∷ c ∷ rest) lead =
     let bs = a ∷ b ∷ c ∷ rest in
     by_test bs rest (is_second a b && is_continuation c)
     (Decides-and (is_second a b) (is_continuation c) (in_three a b lead) (continues c))
-    (λ f. (a ∷ b ∷ c ∷ [], of_three bs 0 (omega arith) lead f.0.0 f.1 (omega arith) (grind arith), refl))
+    (λ f. (a ∷ b ∷ c ∷ [], omega arith, of_three bs 0 (omega arith) lead f.0.0 f.1 (omega arith) (grind arith), refl))
     (λ r. let high = r.in_three (omega arith) (omega arith) in (((r.second (omega arith)).2, high.0, high.1), (r.third (omega arith)).1))
 
 four : (a : ℕ) (rest : List ℕ) → (240 ≤ a) × (a < 245) → Begins (a ∷ rest) (after_lead Lead4 a rest)
@@ -76,7 +76,7 @@ four a (b ∷ c ∷ d ∷ rest) lead =
     let last = Decides-and (is_continuation c) (is_continuation d) (continues c) (continues d) in
     by_test bs rest (is_second a b && (is_continuation c && is_continuation d))
     (Decides-and (is_second a b) (is_continuation c && is_continuation d) (in_four a b lead) last)
-    (λ f. (a ∷ b ∷ c ∷ d ∷ [], of_four bs 0 (omega arith) (omega arith) f.0.0 f.1.0 f.1.1 (f.0.1, f.0.2), refl))
+    (λ f. (a ∷ b ∷ c ∷ d ∷ [], omega arith, of_four bs 0 (omega arith) (omega arith) f.0.0 f.1.0 f.1.1 (f.0.1, f.0.2), refl))
     (λ r. let end = r.fourth (omega arith) in (((r.second (omega arith)).2, end.2.0, end.2.1), ((r.third (omega arith)).1, end.1)))
 
 by_class : (k : ByteClass) (a : ℕ) (rest : List ℕ) → class_of a ≡ k → Begins (a ∷ rest) (after_lead k a rest)
@@ -118,4 +118,4 @@ past_text bs text rest u e = record {
 
 pub passed : (bs rest : List ℕ) → Some rest ≡ after_sequence bs → Passed bs rest
 passed [] rest e = cc
-passed (a ∷ bs) rest e = let b = subst (Begins (a ∷ bs)) (sym e) (begins a bs) in past_text (a ∷ bs) b.0 rest b.1 b.2
+passed (a ∷ bs) rest e = let b = subst (Begins (a ∷ bs)) (sym e) (begins a bs) in past_text (a ∷ bs) b.0 rest b.2 b.3
