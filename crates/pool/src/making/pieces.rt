@@ -60,7 +60,8 @@ impl Making<'_> {
         pieces.iter().all(|piece| self.has(rows, *piece))
     }
 
-    // Adds all pieces, up to the first that is missing or does not fit.
+    // Adds all pieces, up to the first that is missing or does not fit. That nothing is pushed yet is asked here and in
+    // `assemble` alone.
     #[tactic(auto, using(crate::proofs::Gathering::none_yet, crate::proofs::Gathering::finished, crate::proofs::Gathering::only_bytes_trans))]
     fn push_all(
         &mut self,
